@@ -1,0 +1,9 @@
+pub mod Digits
+pub mod Edition
+pub mod Frame
+pub mod Decoded
+pub mod Ranges
+pub mod Legs
+pub mod Read
+pub mod Network
+pub mod Samples

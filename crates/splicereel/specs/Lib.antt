@@ -1,0 +1,4 @@
+pub mod Judge
+pub mod Finding
+pub mod BlockTown
+pub mod Starred

@@ -1,0 +1,4 @@
+pub mod Runs
+pub mod Exits
+pub mod NextBelow
+pub mod Bicycle

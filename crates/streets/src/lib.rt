@@ -1,0 +1,1 @@
+// Runs and movements of a kept network. The definitions are in specs/.

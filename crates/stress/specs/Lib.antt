@@ -1,0 +1,4 @@
+pub mod Bands
+pub mod Segment
+pub mod Crossing
+pub mod TurnLane
