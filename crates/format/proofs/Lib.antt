@@ -1,1 +1,15 @@
+pub mod Lists
+pub mod EditionLaws
+pub mod DigitLaws
+pub mod FrameLaws
+pub mod CornerLaws
+pub mod Faults
+pub mod FramesChecked
+pub mod LineLaws
+pub mod LinesRead
+pub mod KeptText
+pub mod LegLaws
+pub mod NetworkLaws
+pub mod TextLaws
+pub mod ReadTheorems
 pub mod SamplesHold

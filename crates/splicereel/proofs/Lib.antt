@@ -1,1 +1,4 @@
 pub mod StarredHold
+pub mod Writing
+pub mod Judging
+pub mod Printing

@@ -1,7 +1,7 @@
 -- Stepping down from a leg stops at the first used one. After d steps the walk stands at the leg d below, and none of those passed is used; the eighth
 -- step is back at the leg itself, so where that is used the walk has stopped by then. The leg by which a run arrives is used, by its own segment.
 -- Assumes nothing.
-use Prim.Native.Nat.{ℕ, zero, suc, _+_, _*_, _%_, _≤_, _<_}
+use Prim.Native.Nat.{ℕ, zero, suc, _+_, _*_, _-_, _%_, _≤_, _<_}
 use native.Mathlib.Nat.{not-suc-le-zero}
 use native.Mathlib.Omega.{arith}
 use mathlib.Core.Path.{_≡_, refl, sym, _∙_, ap}
@@ -56,7 +56,7 @@ exit-is-next-below net node leg l u =
 -- ---- used legs
 
 -- a leg where one of the first s segments has an end is used by them
-end-used-below : (net : List ℕ) (s k node leg : ℕ) → k < s → hasEnd (frameOf net k) node leg ≡ true → usedBelow net s node leg ≡ true
+pub end-used-below : (net : List ℕ) (s k node leg : ℕ) → k < s → hasEnd (frameOf net k) node leg ≡ true → usedBelow net s node leg ≡ true
 unfolding usedBelow
 end-used-below net zero k node leg l e = absurd (not-suc-le-zero l)
 end-used-below net (suc s) k node leg l e =
@@ -66,11 +66,11 @@ end-used-below net (suc s) k node leg l e =
     (last-or-below l)
 
 -- both ends of a segment are ends
-end-A : (f : List ℕ) → hasEnd f (nodeA f) (legA f) ≡ true
+pub end-A : (f : List ℕ) → hasEnd f (nodeA f) (legA f) ≡ true
 unfolding hasEnd
 end-A f = rw (eq-eqb (nodeA f) (nodeA f) refl, eq-eqb (legA f) (legA f) refl)
 
-end-B : (f : List ℕ) → hasEnd f (nodeB f) (legB f) ≡ true
+pub end-B : (f : List ℕ) → hasEnd f (nodeB f) (legB f) ≡ true
 unfolding hasEnd
 end-B f = or-right ((eqb (nodeA f) (nodeB f)) && (eqb (legA f) (legB f))) (rw (eq-eqb (nodeB f) (nodeB f) refl, eq-eqb (legB f) (legB f) refl))
 
@@ -83,3 +83,21 @@ arrival-is-used net r l =
     rw e (end-used-below net (segmentsOf net) (segmentOf r) (nodeB (frameOfRun net r)) (legB (frameOfRun net r)) (omega arith) (end-B (frameOfRun net r))))
     (λ (e : ridesToB r ≡ false).
     rw e (end-used-below net (segmentsOf net) (segmentOf r) (nodeA (frameOfRun net r)) (legA (frameOfRun net r)) (omega arith) (end-A (frameOfRun net r))))
+
+-- ---- stepping down, one step at a time
+pub exit-at-used : (used : ℕ → Bool) (left at : ℕ) → 0 < left → used (nextBelow at) ≡ true → exitFrom used left at ≡ nextBelow at
+unfolding exitFrom
+exit-at-used used zero at l e = absurd (not-suc-le-zero l)
+exit-at-used used (suc left) at l e = rw e
+
+pub exit-past-unused : (used : ℕ → Bool) (left at : ℕ) → 0 < left → used (nextBelow at) ≡ false
+    → exitFrom used left at ≡ exitFrom used (left - 1) (nextBelow at)
+unfolding exitFrom
+exit-past-unused used zero at l e = absurd (not-suc-le-zero l)
+exit-past-unused used (suc left) at l e =
+    let back : suc left - 1 ≡ left = omega arith in
+    rw (e, back)
+
+pub exit-after-last : (used : ℕ → Bool) (left at : ℕ) → left ≡ 0 → exitFrom used left at ≡ at
+unfolding exitFrom
+exit-after-last used left at e = rw e

@@ -2,11 +2,12 @@
 -- "Run" is document 01's word for one direction of a segment.
 -- Assumes nothing.
 use Prim.Native.Nat.{ℕ, _+_, _*_, _/_, _%_, _<_}
-use mathlib.Core.Bool.{Bool, not, cond, _&&_, _||_}
+use mathlib.Core.Path.{_≡_}
+use mathlib.Core.Bool.{Bool, true, not, cond, _&&_, _||_}
 use mathlib.Core.List.{List}
 use lib.Dec.{eqb, ltb}
 use Rattle.format.specs.Frame.{nodeA, legA, nodeB, legB, feet, ways, approachA, approachB}
-use Rattle.format.specs.Network.{editionOf, segmentsOf, frameOf}
+use Rattle.format.specs.Network.{editionOf, segmentsOf, frameOf, isNetwork}
 
 -- Two runs for each segment.
 abbrev pub runsOf : List ℕ → ℕ
@@ -51,3 +52,12 @@ feetOf net r = feet (editionOf net) (frameOfRun net r)
 -- The second run leaves the node where the first arrives, by another leg. Between open runs that is a movement.
 unfoldable pub joins : List ℕ → ℕ → ℕ → Bool
 joins net p q = eqb (finish net p) (start net q) && not (eqb (arrivalLeg net p) (leavingLeg net q))
+
+-- A segment, and a run, of a network that Read could keep.
+pub record SegmentOf (net : List ℕ) (s : ℕ) : Type 0 where
+  pub network : isNetwork net ≡ true
+  pub inside : s < segmentsOf net
+
+pub record RunOf (net : List ℕ) (r : ℕ) : Type 0 where
+  pub network : isNetwork net ≡ true
+  pub inside : r < runsOf net

@@ -1,0 +1,202 @@
+-- Lines and their digits. A line is taken apart at a place of the text, clause by clause of `lineOf`; what a whole line says of its text
+-- (`Fronts`) is proved along the same clauses, and a scan's answer then tells the line's bytes, their sum and the text after it.
+-- Assumes nothing.
+use Prim.Native.Nat.{ℕ, zero, suc, _+_, _*_, _-_, _%_, _≤_, _<_}
+use mathlib.Core.Bool.{Bool, true, false, cond, _&&_}
+use mathlib.Core.Path.{_≡_, refl, sym, ap, _∙_}
+use mathlib.Core.List.{List, [], _∷_}
+use native.Mathlib.Omega.{arith}
+use native.Mathlib.Nat.{mul-zero}
+use borrow.Author.Tests.{leb-true, eq-eqb, ne-eqb}
+use lib.Dec.{leb, eqb}
+use lib.ListN.{length, getD, drop, length-drop, length-append, drop-of-length-le}
+use lib.Seq.{drop-drop, getD-drop}
+use Rattle.routes.proofs.Facts.{and-true}
+use Rattle.format.specs.declared.digits.Scan.the-variants.{Broken, Whole}
+use Rattle.format.specs.Digits.{within, isDigit, digit, Line, broken, line, push, lineOf, bytesOf, restOf}
+use Rattle.format.specs.Frame.{total}
+use Rattle.format.specs.Scan.{scanned, spelled, spelledLines}
+use Rattle.format.proofs.Lists.{times-suc, drop-one, drop-two}
+
+-- ---- digits
+pub within-low : (lo hi x : ℕ) → within lo hi x ≡ true → lo ≤ x
+within-low lo hi x e = leb-true lo x (and-true (leb lo x) (leb x hi) e .0)
+
+pub within-high : (lo hi x : ℕ) → within lo hi x ≡ true → x ≤ hi
+within-high lo hi x e = leb-true x hi (and-true (leb lo x) (leb x hi) e .1)
+
+pub digit-small : (x : ℕ) → digit x < 16
+unfolding digit
+digit-small x = go (within 48 57 x) refl (within 65 70 x) refl
+  where
+    go : (a : Bool) → within 48 57 x ≡ a → (b : Bool) → within 65 70 x ≡ b → cond a (x - 48) (cond b (x - 55) 0) < 16
+    go true p b q = omega (arith, within-high 48 57 x p)
+    go false p true q = omega (arith, within-high 65 70 x q)
+    go false p false q = omega arith
+
+-- ---- the cases of a line
+pub line-end : (x : ℕ) (u : List ℕ) → eqb x 10 ≡ true → lineOf (x ∷ u) ≡ line [] u
+unfolding lineOf
+line-end x [] e = rw e
+line-end x (y ∷ t) e = rw e
+
+line-odd : (x : ℕ) → eqb x 10 ≡ false → lineOf (x ∷ []) ≡ broken
+unfolding lineOf
+line-odd x e = rw e
+
+pub line-pair : (x y : ℕ) (t : List ℕ) → eqb x 10 ≡ false → (isDigit x && isDigit y) ≡ true
+    → lineOf (x ∷ y ∷ t) ≡ push (16 * digit x + digit y) (lineOf t)
+unfolding lineOf
+line-pair x y t e d = rw (e, d)
+
+line-bad : (x y : ℕ) (t : List ℕ) → eqb x 10 ≡ false → (isDigit x && isDigit y) ≡ false → lineOf (x ∷ y ∷ t) ≡ broken
+unfolding lineOf
+line-bad x y t e d = rw (e, d)
+
+-- ---- the same at a place of a text
+module _ (t : List ℕ) (i : ℕ) where
+  pub end-at : i < length t → getD t i 0 ≡ 10 → lineOf (drop i t) ≡ line [] (drop (i + 1) t)
+  end-at h e = rw (drop-one t i h) (line-end _ _ (eq-eqb _ _ e))
+
+  pub odd-at : i < length t → length t - i < 2 → (getD t i 0 ≡ 10 → ⊥) → lineOf (drop i t) ≡ broken
+  odd-at h o e = rw (drop-one t i h, drop-of-length-le t {i = i + 1} (omega arith)) (line-odd _ (ne-eqb _ _ e))
+
+  pub pair-at : i + 1 < length t → (getD t i 0 ≡ 10 → ⊥) → (isDigit (getD t i 0) && isDigit (getD t (i + 1) 0)) ≡ true
+      → lineOf (drop i t) ≡ push (16 * digit (getD t i 0) + digit (getD t (i + 1) 0)) (lineOf (drop (i + 2) t))
+  pair-at h e d = rw (drop-two t i h) (line-pair _ _ _ (ne-eqb _ _ e) d)
+
+  pub bad-at : i + 1 < length t → (getD t i 0 ≡ 10 → ⊥) → (isDigit (getD t i 0) && isDigit (getD t (i + 1) 0)) ≡ false
+      → lineOf (drop i t) ≡ broken
+  bad-at h e d = rw (drop-two t i h) (line-bad _ _ _ (ne-eqb _ _ e) d)
+
+  pub none-at : length t ≤ i → lineOf (drop i t) ≡ broken
+  unfolding lineOf
+  none-at h = rw (drop-of-length-le t {i = i} h)
+
+-- ---- what a scan answers
+pub scanned-end : (c s i : ℕ) (r : List ℕ) → s < 256 → scanned c s i (line [] r) ≡ Whole c s (i + 1)
+unfolding total scanned
+scanned-end c s i r h =
+    let e : c + 0 ≡ c = omega arith in
+    let f : (s + 0) % 256 ≡ s = omega arith in
+    let g : i + 0 + 1 ≡ i + 1 = omega arith in
+    cc
+
+pub scanned-push : (c s i b : ℕ) (l : Line) → scanned c s i (push b l) ≡ scanned (c + 1) ((s + b) % 256) (i + 2) l
+unfolding total scanned
+scanned-push c s i b broken = refl
+scanned-push c s i b (line bs r) =
+    let e : c + suc (length bs) ≡ c + 1 + length bs = omega arith in
+    let f : (s + (b + total bs)) % 256 ≡ ((s + b) % 256 + total bs) % 256 = omega arith in
+    let g : i + 2 * suc (length bs) + 1 ≡ i + 2 + 2 * length bs + 1 = omega arith in
+    cc
+
+-- ---- bytes that digits spell
+pub spelled-none : (k n : ℕ) (t : List ℕ) → n ≤ k → spelled (n - k) t ≡ []
+unfolding spelled
+spelled-none k n t h = let z : n - k ≡ 0 = omega arith in rw z
+
+pub spelled-step : (k n i : ℕ) (t : List ℕ) → k < n
+    → spelled (n - k) (drop i t) ≡ (16 * digit (getD t i 0) + digit (getD t (i + 1) 0)) ∷ spelled (n - (k + 1)) (drop (i + 2) t)
+unfolding spelled
+spelled-step k n i t h =
+    let z : n - k ≡ suc (n - (k + 1)) = omega arith in
+    let o : i + 0 ≡ i = omega arith in
+    rw (z, spelled, getD-drop i t 0 0, getD-drop i t 1 0, drop-drop 2 i t, o)
+
+pub length-spelled : (n : ℕ) (t : List ℕ) → length (spelled n t) ≡ n
+unfolding spelled
+length-spelled zero t = refl
+length-spelled (suc n) t = ap suc (length-spelled n (drop 2 t))
+
+pub length-spelled-lines : (size m : ℕ) (t : List ℕ) → length (spelledLines size m t) ≡ size * m
+unfolding spelledLines
+length-spelled-lines size zero t = sym (mul-zero size)
+length-spelled-lines size (suc m) t =
+    length-append (spelled size t) (spelledLines size m (drop (2 * size + 1) t))
+    ∙ omega (arith, length-spelled size t, length-spelled-lines size m (drop (2 * size + 1) t), times-suc size m)
+
+-- ---- a line and the text that it fronts: the text has room for it, its digits spell its bytes, and the rest comes after it
+abbrev pub Fronts : List ℕ → Line → Type 0
+Fronts t broken = Unit {0}
+Fronts t (line bs rest) = (2 * length bs + 1 ≤ length t) × (bs ≡ spelled (length bs) t) × (rest ≡ drop (2 * length bs + 1) t)
+
+fronts-cond : (t : List ℕ) (b : Bool) (l m : Line) → Fronts t l → Fronts t m → Fronts t (cond b l m)
+fronts-cond t true l m p q = p
+fronts-cond t false l m p q = q
+
+fronts-push : (x y : ℕ) (t : List ℕ) (l : Line) → Fronts t l → Fronts (x ∷ y ∷ t) (push (16 * digit x + digit y) l)
+unfolding spelled
+fronts-push x y t broken p = tt
+fronts-push x y t (line bs rest) p =
+    let e : 2 * suc (length bs) + 1 ≡ suc (suc (2 * length bs + 1)) = omega arith in
+    (omega (arith, p .0), ap (λ (u : List ℕ). (16 * digit x + digit y) ∷ u) (p .1), rw e (p .2))
+
+pub fronts : (t : List ℕ) → Fronts t (lineOf t)
+unfolding lineOf spelled
+fronts [] = tt
+fronts (x ∷ []) = fronts-cond (x ∷ []) (eqb x 10) (line [] []) broken (omega arith, refl, refl) tt
+fronts (x ∷ y ∷ t) =
+    fronts-cond (x ∷ y ∷ t) (eqb x 10) (line [] (y ∷ t)) _ (omega arith, refl, refl)
+    (fronts-cond (x ∷ y ∷ t) (isDigit x && isDigit y) _ broken (fronts-push x y t (lineOf t) (fronts t)) tt)
+
+-- ---- what a scan that finds a line tells
+pub record Scanned (t : List ℕ) (at count sum next : ℕ) (l : Line) : Type 0 where
+  pub count-is : length (bytesOf l) ≡ count
+  pub sum-is : total (bytesOf l) % 256 ≡ sum
+  pub next-is : next ≡ at + 2 * count + 1
+  pub room : next ≤ length t
+  pub bytes : bytesOf l ≡ spelled count (drop at t)
+  pub rest : restOf l ≡ drop next t
+
+scanned-line : (t : List ℕ) (at count sum next : ℕ) (l : Line) → at ≤ length t → Fronts (drop at t) l
+    → Whole count sum next ≡ scanned 0 0 at l → Scanned t at count sum next l
+unfolding scanned
+scanned-line t at count sum next broken a p e = let z : _≡_ {A = ℕ} 0 1 = cc in absurd (omega (arith, z))
+scanned-line t at count sum next (line bs r) a p e =
+    let f : count ≡ 0 + length bs = cc in
+    let g : sum ≡ (0 + total bs) % 256 = cc in
+    let h : next ≡ at + 2 * length bs + 1 = cc in
+    let c : length bs ≡ count = omega arith in
+    let n : at + (2 * length bs + 1) ≡ next = omega arith in
+    record {
+      count-is = c;
+      sum-is = omega arith;
+      next-is = omega arith;
+      room = omega (arith, p .0, length-drop at t);
+      bytes = rw c at (p .1);
+      rest = p .2 ∙ drop-drop (2 * length bs + 1) at t ∙ ap (λ (k : ℕ). drop k t) n;
+    }
+
+pub scan-tells : {t : List ℕ} {at count sum next : ℕ} → at ≤ length t → Whole count sum next ≡ scanned 0 0 at (lineOf (drop at t))
+    → Scanned t at count sum next (lineOf (drop at t))
+scan-tells {t} {at} {count} {sum} {next} a e = scanned-line t at count sum next (lineOf (drop at t)) a (fronts (drop at t)) e
+
+broken-line : (at : ℕ) (l : Line) → Broken ≡ scanned 0 0 at l → bytesOf l ≡ []
+unfolding scanned
+broken-line at broken e = refl
+broken-line at (line bs r) e = let z : _≡_ {A = ℕ} 0 1 = cc in absurd (omega (arith, z))
+
+pub scan-breaks : (t : List ℕ) (at : ℕ) → Broken ≡ scanned 0 0 at (lineOf (drop at t)) → bytesOf (lineOf (drop at t)) ≡ []
+scan-breaks t at e = broken-line at (lineOf (drop at t)) e
+
+-- ---- a line of a known length: its bytes, and the text after it
+spelled-line : (t : List ℕ) (l : Line) → Fronts t l → bytesOf l ≡ spelled (length (bytesOf l)) t
+unfolding spelled
+spelled-line t broken p = refl
+spelled-line t (line bs r) p = p .1
+
+pub line-spells : (t : List ℕ) (n : ℕ) → length (bytesOf (lineOf t)) ≡ n → bytesOf (lineOf t) ≡ spelled n t
+line-spells t n e = spelled-line t (lineOf t) (fronts t) ∙ ap (λ (k : ℕ). spelled k t) e
+
+after-line : (t : List ℕ) (n : ℕ) (l : Line) → 0 < n → Fronts t l → length (bytesOf l) ≡ n
+    → (2 * n + 1 ≤ length t) × (restOf l ≡ drop (2 * n + 1) t)
+after-line t n broken z p e = absurd (omega arith)
+after-line t n (line bs r) z p e = (omega (arith, p .0), rw e at (p .2))
+
+pub line-after : (t : List ℕ) (at n : ℕ) → at ≤ length t → 0 < n → length (bytesOf (lineOf (drop at t))) ≡ n
+    → (at + (2 * n + 1) ≤ length t) × (restOf (lineOf (drop at t)) ≡ drop (at + (2 * n + 1)) t)
+line-after t at n a z e =
+    let q : (2 * n + 1 ≤ length (drop at t)) × (restOf (lineOf (drop at t)) ≡ drop (2 * n + 1) (drop at t)) =
+    after-line (drop at t) n (lineOf (drop at t)) z (fronts (drop at t)) e in
+    (omega (arith, q .0, length-drop at t), q .1 ∙ drop-drop (2 * n + 1) at t)

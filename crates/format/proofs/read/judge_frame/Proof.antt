@@ -1,0 +1,96 @@
+-- Each return is one test of `segmentFault` after the line's own, in its order: the count, the fields, the legs. Only a frame with no fault changes
+-- the index.
+-- Assumes nothing.
+use Prim.Native.Nat.{ℕ}
+use mathlib.Core.Bool.{Bool, true, false, _&&_}
+use mathlib.Core.List.{List}
+use mathlib.Core.Path.{_≡_, refl, sym, _∙_, subst, subst₂}
+use lib.ListN.{length}
+use Rattle.routes.proofs.Facts.{and-true}
+use Rattle.format.specs.declared.Fault.the-variants.{WrongField, WrongCount, LegTaken}
+use Rattle.format.specs.declared.read.LineRead.the-variants.{Frame, Faulty}
+use Rattle.format.specs.Edition.{frameBytes}
+use Rattle.format.specs.Ranges.{endsOk, streetOk}
+use Rattle.format.specs.Read.{framed}
+use Rattle.format.specs.Corners.{Claimed}
+use Rattle.format.specs.Lines.{indexFault, SegmentJudged}
+use Rattle.format.proofs.EditionLaws.{frame-least}
+use Rattle.format.proofs.FrameLaws.{framed-good, framed-has, corners-few}
+use Rattle.format.proofs.LineLaws.{judged-faulty}
+use native.Mathlib.Omega.{arith}
+use Rattle.format.proofs.read.judge_frame.Statement.{statement}
+use Rattle.format.proofs.read.judge_frame.Tie as tie
+
+module _ {f : List ℕ} {next e n : ℕ} {more : Bool} {s : ℕ} {d : List ℕ} (w : framed 2 (frameBytes e) f 0 ≡ 0) where
+  beyond : more ≡ false → SegmentJudged f next e n more s d d (Faulty WrongCount)
+  beyond m = judged-faulty WrongCount (framed-good 2 (frameBytes e) _ f w ∙ rw m)
+
+  wrong-field : more ≡ true → (endsOk n f && streetOk e f) ≡ false → SegmentJudged f next e n more s d d (Faulty WrongField)
+  wrong-field m o = judged-faulty WrongField (framed-good 2 (frameBytes e) _ f w ∙ rw (m, o))
+
+  module _ (m : more ≡ true) (o : (endsOk n f && streetOk e f) ≡ true) where
+    leg-taken : {d′ : List ℕ} → Claimed f s d d′ false → SegmentJudged f next e n more s d d′ (Faulty LegTaken)
+    leg-taken {d′} h =
+        let g : d′ ≡ d = h .index ∙ rw (sym (h .answer)) in
+        subst (λ (x : List ℕ). SegmentJudged f next e n more s d x (Faulty LegTaken)) (sym g)
+        (judged-faulty LegTaken (framed-good 2 (frameBytes e) _ f w ∙ rw (m, o, sym (h .answer))))
+
+    no-fault : {d′ : List ℕ} → Claimed f s d d′ true → SegmentJudged f next e n more s d d′ (Frame next)
+    no-fault h =
+        let z : indexFault e n more d f ≡ 0 = framed-good 2 (frameBytes e) _ f w ∙ rw (m, o, sym (h .answer)) in
+        record { answer = (z, refl); index = h .index ∙ rw (z, sym (h .answer)) }
+
+fields : (c : tie.After-street-ok) (r : Bool) → (c .before .ends-ok .result && c .street-ok .result) ≡ r
+    → let a = c .before .before .before .before .args in (endsOk (a .n) (a .frame .now) && streetOk (a .e) (a .frame .now)) ≡ r
+fields c r e = subst₂ (λ (a b : Bool). (a && b) ≡ r) (c .before .ends-ok .ensures) (c .street-ok .ensures) e
+
+long : (c : tie.Start) → length (c .args .frame .now) ≡ frameBytes (c .args .e)
+long c = framed-has 2 (frameBytes (c .args .e)) (c .args .frame .now) 0 (c .pre .0) .long
+
+ends-ok-requires : tie.Need-ends-ok-requires
+ends-ok-requires c κs = omega (arith, long (c .before .before), frame-least (c .before .before .args .e))
+
+street-ok-requires : tie.Need-street-ok-requires
+street-ok-requires c κs = omega (arith, long (c .before .before .before))
+
+claim-legs-requires : tie.Need-claim-legs-requires
+claim-legs-requires c κs =
+    let start = c .before .before .before .before .before .before in
+    let a = start .args in
+    let good = and-true (endsOk (a .n) (a .frame .now)) (streetOk (a .e) (a .frame .now)) (fields (c .before .before) true (c .before .if2 .taken)) in
+    let below = corners-few (a .n) (a .frame .now) (start .pre .1) (good .0) in
+    (omega (arith, long start, frame-least (a .e)), start .pre .2 (c .before .before .before .before .if1 .taken), below .0, below .1)
+
+returns : tie.Need-returns
+returns c =
+    no-fault (c .before .before .before .before .before .before .before .before .pre .0)
+    (c .before .before .before .before .before .before .if1 .taken)
+    (fields (c .before .before .before .before) true (c .before .before .before .if2 .taken))
+    (rw (c .if3 .taken) at (c .before .claim-legs .ensures))
+
+returns-2 : tie.Need-returns-2
+returns-2 c =
+    leg-taken (c .before .before .before .before .before .before .before .before .pre .0)
+    (c .before .before .before .before .before .before .if1 .taken)
+    (fields (c .before .before .before .before) true (c .before .before .before .if2 .taken))
+    (rw (c .if3 .left) at (c .before .claim-legs .ensures))
+
+returns-3 : tie.Need-returns-3
+returns-3 c =
+    wrong-field (c .before .before .before .before .before .pre .0) (c .before .before .before .if1 .taken)
+    (fields (c .before) false (c .if2 .left))
+
+returns-4 : tie.Need-returns-4
+returns-4 c = beyond (c .before .before .pre .0) (c .if1 .left)
+
+pub judge-frame-spec : {M : Type 1} → statement M
+judge-frame-spec =
+    tie.close
+    (tie.spec
+    ends-ok-requires
+    street-ok-requires
+    claim-legs-requires
+    returns
+    returns-2
+    returns-3
+    returns-4)
