@@ -1,0 +1,173 @@
+// Standard input is a network text. Prints what Route says between its first nine nodes, and between 24 pairs spread over the network, at tolerances 0
+// to 5, and what Least stress says; for a refusal its number and whether anything lent was written. Which of several shortest routes is drawn is free,
+// so only lengths are printed.
+use format::ReadAnswer;
+use splicereel::least_stress::LeastAnswer;
+use splicereel::route::RouteAnswer;
+
+const OUT: i32 = 1;
+
+const SCRATCH: u32 = 7;
+
+const RUN: u16 = 9;
+
+const PLACE: usize = 50;
+
+fn put(number: usize) {
+    io::print_decimal(OUT, number as u64);
+    io::write_all(OUT, b" ");
+}
+
+fn scratch() -> [u32; 2000] {
+    [SCRATCH; 2000]
+}
+
+fn runs() -> [u16; 2100] {
+    [RUN; 2100]
+}
+
+// Every number is as it was lent.
+fn scratch_same(numbers: &[u32]) -> bool {
+    let mut i: usize = 0;
+    while i < numbers.len() {
+        if numbers[i] != SCRATCH {
+            return false;
+        }
+        i += 1;
+    }
+    true
+}
+
+fn runs_same(numbers: &[u16]) -> bool {
+    let mut i: usize = 0;
+    while i < numbers.len() {
+        if numbers[i] != RUN {
+            return false;
+        }
+        i += 1;
+    }
+    true
+}
+
+fn found(length: u32) {
+    io::write_all(OUT, b"found ");
+    io::print_decimal(OUT, length as u64);
+}
+
+// A refusal's number, and whether what was lent came back as it was.
+fn refused(number: usize, best: &[u32], previous: &[u32], buffer: &[u16]) {
+    io::write_all(OUT, b"refused ");
+    put(number);
+    if scratch_same(best) & scratch_same(previous) & runs_same(buffer) {
+        io::write_all(OUT, b"untouched");
+    } else {
+        io::write_all(OUT, b"written");
+    }
+}
+
+fn none(buffer: &[u16]) {
+    if runs_same(buffer) {
+        io::write_all(OUT, b"none");
+    } else {
+        io::write_all(OUT, b"none, written");
+    }
+}
+
+fn show_route(net: &[u8], from: usize, to: usize, tolerance: usize) {
+    let mut best = scratch();
+    let mut previous = scratch();
+    let mut buffer = runs();
+    put(from);
+    put(to);
+    put(tolerance);
+    match splicereel::route::route(
+        net,
+        from,
+        to,
+        tolerance,
+        &mut best,
+        &mut previous,
+        &mut buffer,
+        PLACE,
+    ) {
+        RouteAnswer::NotANetwork => refused(8, &best, &previous, &buffer),
+        RouteAnswer::NoSuchNode => refused(9, &best, &previous, &buffer),
+        RouteAnswer::NoSuchTolerance => refused(10, &best, &previous, &buffer),
+        RouteAnswer::NoRoom => refused(11, &best, &previous, &buffer),
+        RouteAnswer::Nothing => none(&buffer),
+        RouteAnswer::Found {
+            count: _,
+            length,
+            level: _,
+        } => found(length),
+    }
+    io::write_all(OUT, b"\n");
+}
+
+fn show_least(net: &[u8], from: usize, to: usize) {
+    let mut best = scratch();
+    let mut previous = scratch();
+    let mut buffer = runs();
+    put(from);
+    put(to);
+    io::write_all(OUT, b"least ");
+    match splicereel::least_stress::least_stress(
+        net,
+        from,
+        to,
+        &mut best,
+        &mut previous,
+        &mut buffer,
+        PLACE,
+    ) {
+        LeastAnswer::NotANetwork => refused(8, &best, &previous, &buffer),
+        LeastAnswer::NoSuchNode => refused(9, &best, &previous, &buffer),
+        LeastAnswer::NoRoom => refused(11, &best, &previous, &buffer),
+        LeastAnswer::Nothing => none(&buffer),
+        LeastAnswer::Found {
+            count: _,
+            length,
+            level: _,
+            tolerance,
+        } => {
+            found(length);
+            io::write_all(OUT, b" ");
+            io::print_decimal(OUT, tolerance as u64);
+        }
+    }
+    io::write_all(OUT, b"\n");
+}
+
+fn show(net: &[u8], from: usize, to: usize) {
+    let mut tolerance: usize = 0;
+    while tolerance < 6 {
+        show_route(net, from, to, tolerance);
+        tolerance += 1;
+    }
+    show_least(net, from, to);
+}
+
+fn show_all(net: &[u8]) {
+    let mut pair: usize = 0;
+    while pair < 81 {
+        show(net, pair / 9, pair % 9);
+        pair += 1;
+    }
+    let mut k: usize = 1;
+    while k < 25 {
+        show(net, k * 37 % 1000, k * 91 % 1000);
+        k += 1;
+    }
+}
+
+fn main() {
+    let mut text = io::large_buffer();
+    let count = io::read_full(0, &mut text);
+    let mut net = io::large_buffer();
+    match splicereel::read::read(&text[..count], &mut net) {
+        ReadAnswer::Refused { fault: _, line: _ } => {
+            io::write_all(OUT, b"not read\n");
+        }
+        ReadAnswer::Kept(kept) => show_all(&net[..kept]),
+    }
+}

@@ -1,0 +1,3 @@
+mod Climb
+mod Root
+pub mod Emptied

@@ -1,0 +1,113 @@
+-- The loop is the climb of ../Climb.antt: the invariant is its record, and each way out of the loop is one of its lemmas.
+-- Assumes nothing.
+use Prim.Native.Nat.{_<_}
+use native.Mathlib.Omega.{arith}
+use lib.ListN.{length-set}
+use borrow.Author.Needs.{needs}
+use Rattle.queue.proofs.Climb.{Climb, climb-start, climb-more, climb-stop, climb-end, climb-put}
+use Rattle.queue.proofs.put.Statement.{statement}
+use Rattle.queue.proofs.put.Tie as tie
+
+abbrev Inv-loop : tie.InvT-loop
+Inv-loop n entry key tree₀ i₀ winner₀ tree i winner = Climb tree₀ tree n i winner
+
+abbrev μ-loop : tie.MeasureT-loop
+μ-loop n entry key tree₀ i₀ winner₀ tree i winner = i
+
+add-i : tie.Need-add-i Inv-loop μ-loop
+add-i c = search needs
+
+mul-tree : tie.Need-mul-tree Inv-loop μ-loop
+mul-tree c = search needs
+
+slice-write-tree : tie.Need-slice-write-tree Inv-loop μ-loop
+slice-write-tree c = search needs
+
+loop-holds : tie.Need-loop-holds Inv-loop μ-loop
+loop-holds c = climb-start (c .before .pre .0) (c .before .pre .1) (c .before .pre .2)
+
+mul-lesser : tie.Need-mul-lesser Inv-loop μ-loop
+mul-lesser c = search needs
+
+add-lesser : tie.Need-add-lesser Inv-loop μ-loop
+add-lesser c = search needs
+
+sub-lesser : tie.Need-sub-lesser Inv-loop μ-loop
+sub-lesser c = search needs
+
+mul-lesser-2 : tie.Need-mul-lesser-2 Inv-loop μ-loop
+mul-lesser-2 c = search needs
+
+slice-read-lesser : tie.Need-slice-read-lesser Inv-loop μ-loop
+slice-read-lesser c = search needs
+
+lesser-requires : tie.Need-lesser-requires Inv-loop μ-loop
+lesser-requires c κs = search needs
+
+mul-if1 : tie.Need-mul-if1 Inv-loop μ-loop
+mul-if1 c = search needs
+
+slice-read-if1 : tie.Need-slice-read-if1 Inv-loop μ-loop
+slice-read-if1 c = search needs
+
+same-length : tie.Need-same-length Inv-loop μ-loop
+same-length c = simp length-set at (c .before .before .before .before .before .loop .inv .same)
+
+returns : tie.Need-returns Inv-loop μ-loop
+returns c =
+    let s = c .before .before .before .before .before .before .before in
+    let k = c .before .before .before .before .before .loop in
+    let u : 1 < k .i = omega (arith, c .before .before .before .before .loop-test .taken) in
+    climb-put (s .pre .0) (s .pre .1) (s .pre .2) (k .inv) (climb-stop (k .inv) u (c .before .before .lesser .ensures) (c .if1 .taken))
+
+mul-tree-2 : tie.Need-mul-tree-2 Inv-loop μ-loop
+mul-tree-2 c = search needs
+
+slice-write-tree-2 : tie.Need-slice-write-tree-2 Inv-loop μ-loop
+slice-write-tree-2 c = search needs
+
+loop-less : tie.Need-loop-less Inv-loop μ-loop
+loop-less c = search needs
+
+loop-again : tie.Need-loop-again Inv-loop μ-loop
+loop-again c =
+    climb-more
+    (c .before .before .before .before .before .loop .inv)
+    (omega (arith, c .before .before .before .before .loop-test .taken))
+    (c .before .before .lesser .ensures)
+
+same-length-2 : tie.Need-same-length-2 Inv-loop μ-loop
+same-length-2 c = simp length-set at (c .before .loop .inv .same)
+
+returns-2 : tie.Need-returns-2 Inv-loop μ-loop
+returns-2 c =
+    let s = c .before .before .before in
+    let k = c .before .loop in
+    climb-put (s .pre .0) (s .pre .1) (s .pre .2) (k .inv) (climb-end (k .inv) (omega (arith, c .loop-test .left)))
+
+pub put-spec : {M : Type 1} → statement M
+put-spec =
+    tie.close
+    (tie.spec
+    Inv-loop
+    μ-loop
+    add-i
+    mul-tree
+    slice-write-tree
+    loop-holds
+    mul-lesser
+    add-lesser
+    sub-lesser
+    mul-lesser-2
+    slice-read-lesser
+    lesser-requires
+    mul-if1
+    slice-read-if1
+    same-length
+    returns
+    mul-tree-2
+    slice-write-tree-2
+    loop-less
+    loop-again
+    same-length-2
+    returns-2)

@@ -1,0 +1,175 @@
+-- The eight exits of a corner are offered one after the other; an exit may be free, and a run may stand at more than one. After each offer every run is
+-- as it was before the round, or has got its label by way of u; and of those runs without a label to which an edge leads, each that stood at an exit
+-- already passed has got it. A run that is visited again is labelled and stays. Every edge from u leads to a run at one of the eight, so after the
+-- last offer every edge is relaxed.
+-- Assumes nothing.
+use mathlib.Core.Path.{_≡_, refl, sym, _∙_, ap}
+use mathlib.Core.Bool.{Bool, true, true≢false}
+use mathlib.Core.List.{List}
+use mathlib.Core.Logic.{_⊎_, inl, inr, ⊎-elim}
+use Prim.Native.Nat.{ℕ, _+_, _*_, _≤_, _<_}
+use native.Mathlib.Nat.{not-suc-le-zero}
+use native.Mathlib.Numerals.{add-one}
+use native.Mathlib.Omega.{arith}
+use lib.ListN.{length, set, length-set}
+use lib.Seq.{getD-set-same, getD-set-other}
+use Rattle.routes.specs.Streets.{Streets}
+use Rattle.routes.specs.Labels.{unlabelled, edgeOf}
+use Rattle.routes.proofs.Facts.{eq-or-ne, last-or-below}
+use Rattle.routes.proofs.Walks.{true-edge}
+use Rattle.queue.specs.Queue.{at}
+use Rattle.search.specs.Relax.{Visit, kept, barred, labelled, Exits, Offer, free, leads, Relaxed}
+
+-- exits that hold for a relation hold for the part of it that a tolerance leaves
+pub exits-within : (g : Streets) (t : ℕ) {exits : List ℕ} {n : ℕ} → Exits (g .finish) (g .joins) exits n → Exits (g .finish) (edgeOf g t) exits n
+exits-within g t E =
+    record { every = λ p r l k e. E .every p r l k (true-edge g t p r e .joined) }
+
+-- q is as it was
+abbrev pub Same : List ℕ → List ℕ → List ℕ → List ℕ → ℕ → Type 0
+Same best₀ previous₀ best previous q = (at best q ≡ at best₀ q) × (at previous q ≡ at previous₀ q)
+
+-- q had no label, and has got one by way of u
+pub record Got (edge : ℕ → ℕ → Bool) (feet : ℕ → ℕ) (u base : ℕ) (best₀ best previous : List ℕ) (q : ℕ) : Type 0 where
+  pub none : unlabelled ≤ at best₀ q
+  pub edge-to : edge u q ≡ true
+  pub label : at best q ≡ base + feet q
+  pub before : at previous q ≡ u
+
+-- the first i entries from the place `from` on were offered
+pub record Offered (edge : ℕ → ℕ → Bool) (feet : ℕ → ℕ) (u base : ℕ) (exits : List ℕ) (from i : ℕ) (best₀ previous₀ best previous : List ℕ) : Type 0 where
+  pub long : length best ≡ length best₀
+  pub long′ : length previous ≡ length previous₀
+  pub each : (q : ℕ) → Same best₀ previous₀ best previous q ⊎ Got edge feet u base best₀ best previous q
+  pub passed : (leg : ℕ) → leg < i → (q : ℕ) → at exits (from + leg) ≡ q + 1 → unlabelled ≤ at best₀ q → edge u q ≡ true
+      → Got edge feet u base best₀ best previous q
+
+pub offered-none : (edge : ℕ → ℕ → Bool) (feet : ℕ → ℕ) (u base : ℕ) (exits : List ℕ) (from : ℕ) (best previous : List ℕ)
+    → Offered edge feet u base exits from 0 best previous best previous
+offered-none edge feet u base exits from best previous =
+    record { long = refl; long′ = refl; each = λ q. inl (refl, refl); passed = λ leg l. absurd (not-suc-le-zero l) }
+
+module _ {edge : ℕ → ℕ → Bool} {feet : ℕ → ℕ} {u base : ℕ} {exits : List ℕ} {from i : ℕ} {best₀ previous₀ best previous : List ℕ}
+    (S : Offered edge feet u base exits from i best₀ previous₀ best previous) where
+  -- an offer that changes nothing
+  idle : {best′ previous′ : List ℕ}
+      → ((q : ℕ) → at exits (from + i) ≡ q + 1 → unlabelled ≤ at best₀ q → edge u q ≡ true → Got edge feet u base best₀ best previous q)
+      → best′ ≡ best → previous′ ≡ previous → Offered edge feet u base exits from (i + 1) best₀ previous₀ best′ previous′
+  idle here e e′ =
+      rw (e, e′)
+      (record {
+        long = S .long;
+        long′ = S .long′;
+        each = S .each;
+        passed = λ leg l q x.
+            ⊎-elim
+            (λ (h : leg ≡ i). here q (rw h at x))
+            (λ (h : leg < i). S .passed leg h q x)
+            (last-or-below (rw add-one at l));
+      })
+
+  -- a run that has a label now, and had none, got it
+  labelled-got : (q : ℕ) → at best q < unlabelled → unlabelled ≤ at best₀ q → Got edge feet u base best₀ best previous q
+  labelled-got q l h =
+      ⊎-elim
+      (λ (s : Same best₀ previous₀ best previous q). absurd (omega (arith, s .0)))
+      (λ (s : Got edge feet u base best₀ best previous q). s)
+      (S .each q)
+
+  -- a run that has no label now had none
+  none-before : (q : ℕ) → unlabelled ≤ at best q → unlabelled ≤ at best₀ q
+  none-before q l =
+      ⊎-elim
+      (λ (s : Same best₀ previous₀ best previous q). omega (arith, s .0))
+      (λ (s : Got edge feet u base best₀ best previous q). s .none)
+      (S .each q)
+
+  -- an offer that labels r
+  module _ (r : ℕ) (whose : at exits (from + i) ≡ r + 1) (inside : r < length best₀) (inside′ : r < length previous₀) (none : unlabelled ≤ at best r)
+      (leads-to : edge u r ≡ true) where
+    own : Got edge feet u base best₀ (set best r (base + feet r)) (set previous r u) r
+    own =
+        record {
+          none = none-before r none;
+          edge-to = leads-to;
+          label = getD-set-same best r (base + feet r) 0 (omega (arith, S .long));
+          before = getD-set-same previous r u 0 (omega (arith, S .long′));
+        }
+
+    other : (q : ℕ) → (q ≡ r → ⊥) → Same best previous (set best r (base + feet r)) (set previous r u) q
+    other q e = (getD-set-other best r q (base + feet r) 0 e, getD-set-other previous r q u 0 e)
+
+    stays : (q : ℕ) → Got edge feet u base best₀ best previous q → Got edge feet u base best₀ (set best r (base + feet r)) (set previous r u) q
+    stays q s =
+        ⊎-elim
+        (λ (e : q ≡ r). rw e own)
+        (λ (e : q ≡ r → ⊥).
+        record { none = s .none; edge-to = s .edge-to; label = other q e .0 ∙ s .label; before = other q e .1 ∙ s .before })
+        (eq-or-ne q r)
+
+    labels : Offered edge feet u base exits from (i + 1) best₀ previous₀ (set best r (base + feet r)) (set previous r u)
+    labels =
+        record {
+          long = simp length-set (S .long);
+          long′ = simp length-set (S .long′);
+          each = λ q.
+              ⊎-elim
+              (λ (s : Same best₀ previous₀ best previous q).
+              ⊎-elim
+              (λ (e : q ≡ r). inr (rw e own))
+              (λ (e : q ≡ r → ⊥). inl (other q e .0 ∙ s .0, other q e .1 ∙ s .1))
+              (eq-or-ne q r))
+              (λ (s : Got edge feet u base best₀ best previous q). inr (stays q s))
+              (S .each q);
+          passed = λ leg l q x h e.
+              ⊎-elim
+              (λ (k : leg ≡ i).
+              let f : q ≡ r = omega (arith, whose, rw k at x) in
+              rw f own)
+              (λ (k : leg < i). stays q (S .passed leg k q x h e))
+              (last-or-below (rw add-one at l));
+        }
+
+  visited : {best′ previous′ : List ℕ} (r : ℕ) → at exits (from + i) ≡ r + 1 → r < length best₀ → r < length previous₀
+      → Visit edge feet u base r best previous best′ previous′ → Offered edge feet u base exits from (i + 1) best₀ previous₀ best′ previous′
+  visited r x l l′ (kept h e e′) =
+      idle
+      (λ q y none s.
+      let f : q ≡ r = omega (arith, x, y) in
+      labelled-got q (rw f h) none)
+      e e′
+  visited r x l l′ (barred h e e′) =
+      idle
+      (λ q y none s.
+      let f : q ≡ r = omega (arith, x, y) in
+      absurd (true≢false (sym s ∙ ap (edge u) f ∙ h)))
+      e e′
+  visited r x l l′ (labelled h s e e′) = rw (e, e′) (labels r x l l′ h s)
+
+  -- one offer more
+  pub offered-more : {best′ previous′ : List ℕ} {n : ℕ} → at exits (from + i) ≤ n → n ≤ length best₀ → n ≤ length previous₀
+      → Offer edge feet u base (at exits (from + i)) best previous best′ previous′ → Offered edge feet u base exits from (i + 1) best₀ previous₀ best′ previous′
+  offered-more l f f′ (free z e e′) = idle (λ q x. absurd (omega (arith, x, z))) e e′
+  offered-more l f f′ (leads {r} v x) = visited r x (omega arith) (omega arith) v
+
+-- all eight were offered: every edge from u is relaxed
+pub offered-all : {finish : ℕ → ℕ} {edge : ℕ → ℕ → Bool} {feet : ℕ → ℕ} {n u base : ℕ} {exits best₀ previous₀ best previous : List ℕ}
+    → Exits finish edge exits n → u < n → Offered edge feet u base exits (finish u * 8) 8 best₀ previous₀ best previous
+    → Relaxed edge feet n u base best₀ previous₀ best previous
+offered-all {finish} {edge} {feet} {n} {u} {base} {exits} {best₀} {previous₀} {best} {previous} E inside S =
+    record {
+      kept = λ r l h.
+          ⊎-elim
+          (λ (s : Same best₀ previous₀ best previous r). s)
+          (λ (s : Got edge feet u base best₀ best previous r). absurd (omega (arith, s .none)))
+          (S .each r);
+      barred = λ r l e.
+          ⊎-elim
+          (λ (s : Same best₀ previous₀ best previous r). s)
+          (λ (s : Got edge feet u base best₀ best previous r). absurd (true≢false (sym (s .edge-to) ∙ e)))
+          (S .each r);
+      labelled = λ r l h e.
+          let x = E .every u r inside l e in
+          let s = S .passed (x .0) (x .1) r (x .2) h e in
+          (s .label, s .before);
+    }

@@ -1,0 +1,198 @@
+-- The heart of the search. The run u that is settled next has the least key m among those not settled. A run r that has a label already got it from a
+-- run that was settled before u, so its label is at most best u + feet r: the first label that a run gets is its best one, and L2 holds for u too. A
+-- run that gets its label now has one above best u, since feet are at least 1, so its key is above m and nothing that is settled changes. After the
+-- round u is settled as well, and where no key lies between m + 1 and the next key the invariant may be read at the next key.
+-- Assumes nothing.
+use mathlib.Core.Path.{_≡_, sym, _∙_, ap}
+use mathlib.Core.Bool.{Bool, true, false, true≢false}
+use mathlib.Core.List.{List}
+use mathlib.Core.Logic.{_⊎_, inl, inr, ⊎-elim}
+use Prim.Native.Nat.{ℕ, _+_, _-_, _≤_, _<_}
+use native.Mathlib.Omega.{arith}
+use lib.Dec.{ltb}
+use borrow.Author.Tests.{lt-ltb, le-ltb, ltb-true}
+use Rattle.routes.specs.Labels.{Graph, unlabelled, Paved, First, Next, Labels}
+use Rattle.routes.proofs.Facts.{bool-cases, lt-or-ge}
+use Rattle.routes.proofs.Counting.{count, count-le, count-less}
+use Rattle.routes.proofs.Chains.{label-bound}
+use Rattle.queue.specs.Queue.{top, at}
+use Rattle.search.specs.Keys.{labelIn, runIn, key, IsKey}
+use Rattle.search.specs.Relax.{Relaxed}
+use Rattle.search.specs.Queued.{Least}
+use Rattle.search.specs.Search.{Fair, Settled, NoGoal}
+
+pub fair-paved : (w : Graph) {most : ℕ} → Fair (w .size) (w .feet) most → Paved w
+fair-paved w F = record { small = omega (arith, F .small); long = F .long }
+
+module _ {w : Graph} {best previous : List ℕ} {m : ℕ} (I : Settled w best previous m) where
+  -- a label has room for one run more
+  pub label-room : {most : ℕ} → Fair (w .size) (w .feet) most → (r : ℕ) → r < w .size → at best r < unlabelled → at best r + most < unlabelled
+  label-room {most} F r l h =
+      omega (arith, label-bound w (at best) (at previous) (fair-paved w F) (I .whence) most (F .short) r l h, F .room)
+
+  -- the certificate below the bound of m in feet
+  pub settled-labels : {most : ℕ} → Fair (w .size) (w .feet) most → Labels w (at best) (at previous) (labelIn m)
+  settled-labels F =
+      record { sources = I .sources; whence = I .whence; edges = λ p r l h b. I .edges p r l (omega (arith, F .small)) }
+
+  -- where no key lies between m and k, what is settled below m is settled below k
+  pub settled-skip : {k : ℕ} → Least best (w .size) m k → Settled w best previous k
+  settled-skip {k} L =
+      record {
+        bounded = L .bounded;
+        sources = I .sources;
+        whence = I .whence;
+        earlier = λ r l h j. omega (arith, I .earlier r l h j, L .from);
+        edges = λ p r l h.
+            I .edges p r l
+            (⊎-elim
+            (λ (s : key best p < m). s)
+            (λ (s : m ≤ key best p). absurd (omega (arith, L .least p l s)))
+            (lt-or-ge (key best p) m));
+      }
+
+-- how many runs are settled, and how many are not
+abbrev pub settledCount : List ℕ → ℕ → ℕ → ℕ
+settledCount best n m = count (λ (r : ℕ). ltb (key best r) m) n
+
+abbrev pub unsettled : List ℕ → ℕ → ℕ → ℕ
+unsettled best n m = n - settledCount best n m
+
+-- r gets its label in this round, by way of u
+record Fresh (w : Graph) (u base : ℕ) (best best′ previous′ : List ℕ) (r : ℕ) : Type 0 where
+  none : unlabelled ≤ at best r
+  edge : w .edge u r ≡ true
+  label : at best′ r ≡ base + w .feet r
+  before : at previous′ r ≡ u
+
+-- a round: the run with the key m is settled
+module _ {w : Graph} {best previous best′ previous′ : List ℕ} {m most : ℕ} (F : Fair (w .size) (w .feet) most) (I : Settled w best previous m)
+    (below : m < top) (K : IsKey best (w .size) m)
+    (R : Relaxed (w .edge) (w .feet) (w .size) (runIn m) (labelIn m) best previous best′ previous′) where
+  -- a label is old, or fresh
+  old-or-fresh : (r : ℕ) → r < w .size → at best′ r < unlabelled → (at best r < unlabelled) ⊎ Fresh w (runIn m) (labelIn m) best best′ previous′ r
+  old-or-fresh r l h =
+      ⊎-elim
+      (λ (s : at best r < unlabelled). inl s)
+      (λ (s : unlabelled ≤ at best r).
+      bool-cases (w .edge (runIn m) r)
+      (λ (e : w .edge (runIn m) r ≡ true).
+      let k = R .labelled r l s e in
+      inr (record { none = s; edge = e; label = k .0; before = k .1 }))
+      (λ (e : w .edge (runIn m) r ≡ false). absurd (omega (arith, R .barred r l e .0))))
+      (lt-or-ge (at best r) unlabelled)
+
+  settling : at best (runIn m) < unlabelled
+  settling = omega (arith, K .exact)
+
+  same-label : at best′ (runIn m) ≡ labelIn m
+  same-label = R .kept (runIn m) (K .inside) settling .0 ∙ K .exact
+
+  -- a key up to m is an old one
+  old-key : (r : ℕ) → r < w .size → key best′ r < m + 1 → (at best r < unlabelled) × (at best′ r ≡ at best r)
+  old-key r l h =
+      ⊎-elim
+      (λ (s : at best r < unlabelled). (s, R .kept r l s .0))
+      (λ (s : Fresh w (runIn m) (labelIn m) best best′ previous′ r). absurd (omega (arith, s .label, F .long r l, F .small)))
+      (old-or-fresh r l (omega arith))
+
+  -- it is settled before the round, or is m itself
+  settled-or-next : (r : ℕ) → r < w .size → key best′ r < m + 1 → (key best r < m) ⊎ (r ≡ runIn m)
+  settled-or-next r l h =
+      let o = old-key r l h in
+      ⊎-elim (λ (s : key best r < m). inl s) (λ (s : m ≤ key best r). inr (omega (arith, o .1, F .small))) (lt-or-ge (key best r) m)
+
+  old-whence : (r : ℕ) → r < w .size → at best r < unlabelled
+      → First w (at best′) (at previous′) r ⊎ Next w (at best′) (at previous′) r (at previous′ r)
+  old-whence r l h =
+      let k = R .kept r l h in
+      ⊎-elim
+      (λ (s : First w (at best) (at previous) r). inl (record { source = s .source; exact = k .0 ∙ s .exact; alone = k .1 ∙ s .alone }))
+      (λ (s : Next w (at best) (at previous) r (at previous r)).
+      let j = R .kept (at previous r) (s .inside) (s .labelled) in
+      inr
+      (rw (k .1)
+      (record {
+        inside = s .inside;
+        labelled = omega (arith, j .0, s .labelled);
+        edge = s .edge;
+        exact = omega (arith, k .0, j .0, s .exact);
+      })))
+      (I .whence r l h)
+
+  old-earlier : (r : ℕ) → r < w .size → at best r < unlabelled → at previous′ r < w .size → key best′ (at previous′ r) < m + 1
+  old-earlier r l h i =
+      let k = R .kept r l h in
+      let i′ : at previous r < w .size = omega (arith, k .1) in
+      let s = I .earlier r l h i′ in
+      rw (k .1) (omega (arith, R .kept (at previous r) i′ (omega arith) .0))
+
+  -- L2 for the run that is settled
+  next-edges : (r : ℕ) → r < w .size → w .edge (runIn m) r ≡ true → (at best′ r < unlabelled) × (at best′ r ≤ labelIn m + w .feet r)
+  next-edges r l e =
+      ⊎-elim
+      (λ (s : at best r < unlabelled).
+      let k = R .kept r l s in
+      ⊎-elim
+      (λ (f : First w (at best) (at previous) r). omega (arith, k .0, f .exact))
+      (λ (f : Next w (at best) (at previous) r (at previous r)). omega (arith, k .0, f .exact, I .earlier r l s (f .inside)))
+      (I .whence r l s))
+      (λ (s : unlabelled ≤ at best r).
+      omega (arith, R .labelled r l s e .0, label-room I F (runIn m) (K .inside) settling, K .exact, F .short r l))
+      (lt-or-ge (at best r) unlabelled)
+
+  pub settled-more : Settled w best′ previous′ (m + 1)
+  settled-more =
+      record {
+        bounded = omega arith;
+        sources = λ r l e.
+            let s = I .sources r l e in
+            omega (arith, s .0, s .1, R .kept r l (s .0) .0);
+        whence = λ r l h.
+            ⊎-elim
+            (λ (s : at best r < unlabelled). old-whence r l s)
+            (λ (s : Fresh w (runIn m) (labelIn m) best best′ previous′ r).
+            inr
+            (rw (s .before)
+            (record { inside = K .inside; labelled = omega (arith, same-label); edge = s .edge; exact = omega (arith, s .label, same-label) })))
+            (old-or-fresh r l h);
+        earlier = λ r l h i.
+            ⊎-elim
+            (λ (s : at best r < unlabelled). old-earlier r l s i)
+            (λ (s : Fresh w (runIn m) (labelIn m) best best′ previous′ r). rw (s .before) (omega (arith, same-label)))
+            (old-or-fresh r l h);
+        edges = λ p r l h l′ e.
+            let o = old-key p l h in
+            ⊎-elim
+            (λ (s : key best p < m).
+            let j = I .edges p r l s l′ e in
+            omega (arith, R .kept r l′ (j .0) .0, j .0, j .1, o .1))
+            (λ (s : p ≡ runIn m).
+            omega (arith, next-edges r l′ (rw s at e), same-label, ap (at best′) s))
+            (settled-or-next p l h);
+      }
+
+  -- one run more is settled than before
+  pub settled-less : {m′ : ℕ} → Least best′ (w .size) (m + 1) m′ → unsettled best′ (w .size) m′ < unsettled best (w .size) m
+  settled-less {m′} L =
+      omega (
+        arith,
+        count-less (λ (r : ℕ). ltb (key best r) m) (λ (r : ℕ). ltb (key best′ r) m′) (w .size)
+            (λ r l e.
+            let s = ltb-true (key best r) m e in
+            lt-ltb (key best′ r) m′ (omega (arith, R .kept r l (omega arith) .0, L .from)))
+            (runIn m) (K .inside) (le-ltb (key best (runIn m)) m (omega (arith, K .exact)))
+            (lt-ltb (key best′ (runIn m)) m′ (omega (arith, same-label, L .from))),
+        count-le (λ (r : ℕ). ltb (key best′ r) m′) (w .size),
+      )
+
+  -- where the run that is settled is no goal, still no settled run is
+  pub no-goal-more : {goal : ℕ → Bool} {m′ : ℕ} → Least best′ (w .size) (m + 1) m′ → goal (runIn m) ≡ false → NoGoal goal best (w .size) m
+      → NoGoal goal best′ (w .size) m′
+  no-goal-more {goal} {m′} L e N r l h t =
+      let k : key best′ r < m + 1 =
+      ⊎-elim
+      (λ (s : key best′ r < m + 1). s)
+      (λ (s : m + 1 ≤ key best′ r). absurd (omega (arith, L .least r l s)))
+      (lt-or-ge (key best′ r) (m + 1)) in
+      ⊎-elim (λ (s : key best r < m). N r l s t) (λ (s : r ≡ runIn m). true≢false (sym t ∙ ap goal s ∙ e)) (settled-or-next r l k)

@@ -1,0 +1,12 @@
+pub mod Beginning
+pub mod Invariant
+pub mod Queueing
+pub mod Exits
+pub mod Rounds
+pub mod Tracing
+pub mod Levels
+pub mod Stopping
+pub mod Tolerance
+pub mod LeavingLaws
+pub mod TownLaws
+pub mod TestLaws

@@ -1,0 +1,139 @@
+-- The search's use of the queue. A run is put in with its key when it gets its label, and taken out when it is settled; no other entry changes. So the
+-- front of the queue is the least key of a labelled run that is not settled. A new label's key lies above the key of the run that is being settled,
+-- since feet are at least 1: it counts as not settled. Different runs have different keys, so taking out one run takes out no other.
+-- Assumes nothing.
+use mathlib.Core.Path.{_≡_, _∙_, ap}
+use mathlib.Core.Bool.{Bool}
+use mathlib.Core.List.{List}
+use mathlib.Core.Logic.{⊎-elim}
+use Prim.Native.Nat.{ℕ, _+_, _≤_, _<_}
+use native.Mathlib.Omega.{arith}
+use lib.ListN.{set, length-set}
+use lib.Seq.{getD-set-same, getD-set-other}
+use Rattle.routes.specs.Labels.{unlabelled}
+use Rattle.routes.proofs.Facts.{lt-or-ge, eq-or-ne}
+use Rattle.queue.specs.Queue.{top, at, keyOf, Put, Front}
+use Rattle.search.specs.Keys.{span, labelKey, labelIn, runIn, key}
+use Rattle.search.specs.Relax.{Relaxed}
+use Rattle.search.specs.Queued.{Queued, Least}
+use Rattle.search.specs.Search.{Fair, Due, Settling, Round}
+
+module _ {best tree : List ℕ} {n k m : ℕ} where
+  -- the front of the queue is the next key
+  pub queued-least : n ≤ span → Queued best tree n k → k ≤ top → Front tree n m → Least best n k m
+  queued-least small Q bounded N =
+      record {
+        bounded = N .bounded;
+        from =
+            ⊎-elim
+            (λ (s : m < top).
+            let o = N .whose s in
+            let p = Q .only (o .0) (o .1) (omega (arith, o .2)) in
+            omega (arith, o .2, p .0, p .1))
+            (λ (s : top ≤ m). omega arith)
+            (lt-or-ge m top);
+        least = λ r l h.
+            ⊎-elim
+            (λ (s : at best r < unlabelled). omega (arith, N .least r l, Q .every r l h s))
+            (λ (s : unlabelled ≤ at best r). omega (arith, N .bounded))
+            (lt-or-ge (at best r) unlabelled);
+        whose = λ s.
+            let o = N .whose s in
+            let p = Q .only (o .0) (o .1) (omega (arith, o .2)) in
+            let e : runIn m ≡ o .0 = omega (arith, o .1, o .2, p .1) in
+            record { inside = omega (arith, o .1); exact = rw e (omega (arith, o .1, o .2, p .1)) };
+      }
+
+  -- no key lies between k and m
+  pub queued-skip : Queued best tree n k → Least best n k m → Queued best tree n m
+  queued-skip Q L =
+      record {
+        queue = Q .queue;
+        every = λ r l h. Q .every r l (omega (arith, L .from));
+        only = λ r l s.
+            let o = Q .only r l s in
+            (L .least r l (o .0), o .1);
+      }
+
+-- the run with the key m is taken out
+pub settling-begins : {n most m : ℕ} {best previous tree tree′ : List ℕ} → n ≤ span → Due n most m best previous tree → Put tree tree′ n (runIn m) top
+    → Settling n most (runIn m) (labelIn m) best previous tree′
+settling-begins {n} {most} {m} {best} {previous} {tree} {tree′} small D P =
+    record {
+      inside = D .whose .inside;
+      room = D .room;
+      long = D .long;
+      long′ = D .long′;
+      queued =
+          record {
+            queue = P .queue;
+            every = λ r l h s.
+                P .others r l (λ (e : r ≡ runIn m). omega (arith, D .whose .exact, ap (at best) e))
+                ∙ D .queued .every r l (omega arith) s;
+            only = λ r l s.
+                ⊎-elim
+                (λ (e : r ≡ runIn m). absurd (omega (arith, P .here, ap (keyOf tree′ n) e)))
+                (λ (e : r ≡ runIn m → ⊥).
+                let p = P .others r l e in
+                let o = D .queued .only r l (omega arith) in (
+                  ⊎-elim
+                      (λ (h : m < key best r). omega arith)
+                      (λ (h : key best r ≤ m). absurd (e (omega (arith, o .0))))
+                      (lt-or-ge m (key best r)),
+                  p ∙ o .1,
+                ))
+                (eq-or-ne r (runIn m));
+          };
+    }
+
+-- a run gets its label by way of u, and is put in
+module _ {n most u base r v x : ℕ} {feet : ℕ → ℕ} {best previous tree tree′ : List ℕ} (F : Fair n feet most)
+    (S : Settling n most u base best previous tree) (inside : r < n) (e : v ≡ base + feet r) (exact : x ≡ labelKey v r) (P : Put tree tree′ n r x) where
+  other : (q : ℕ) → (q ≡ r → ⊥) → at (set best r v) q ≡ at best q
+  other q s = getD-set-other best r q v 0 s
+
+  mine : at (set best r v) r ≡ v
+  mine = getD-set-same best r v 0 (omega (arith, S .long))
+
+  own : x ≡ key (set best r v) r
+  own = omega (arith, mine)
+
+  same : (q : ℕ) → (q ≡ r → ⊥) → key best q ≡ key (set best r v) q
+  same q s = omega (arith, other q s)
+
+  pub settling-more : Settling n most u base (set best r v) (set previous r u) tree′
+  settling-more =
+      record {
+        inside = S .inside;
+        room = S .room;
+        long = simp length-set (S .long);
+        long′ = simp length-set (S .long′);
+        queued =
+            record {
+              queue = P .queue;
+              every = λ q l h d.
+                  ⊎-elim
+                  (λ (s : q ≡ r). rw s (P .here ∙ own))
+                  (λ (s : q ≡ r → ⊥).
+                  P .others q l s ∙ S .queued .every q l (omega (arith, other q s)) (omega (arith, other q s)) ∙ same q s)
+                  (eq-or-ne q r);
+              only = λ q l d.
+                  ⊎-elim
+                  (λ (s : q ≡ r). rw s (omega (arith, mine, F .long r inside, F .small, S .inside), P .here ∙ own))
+                  (λ (s : q ≡ r → ⊥).
+                  let p = P .others q l s in
+                  let o = S .queued .only q l (omega arith) in
+                  (omega (arith, o .0, other q s), p ∙ o .1 ∙ same q s))
+                  (eq-or-ne q r);
+            };
+      }
+
+-- a round, as it was made: the run taken out, its edges relaxed, and the front looked up
+pub settling-ends : {edge : ℕ → ℕ → Bool} {feet : ℕ → ℕ} {n most m : ℕ} {best previous tree best′ previous′ tree′ : List ℕ} {m′ : ℕ} → n ≤ span
+    → Due n most m best previous tree → Relaxed edge feet n (runIn m) (labelIn m) best previous best′ previous′
+    → Settling n most (runIn m) (labelIn m) best′ previous′ tree′ → Front tree′ n m′ → Round edge feet n m best previous best′ previous′ tree′ m′
+settling-ends {m = m} small D R S N =
+    let e : labelKey (labelIn m) (runIn m) + 1 ≡ m + 1 = omega arith in
+    let Q = rw e at (S .queued) in
+    let L = queued-least small Q (omega (arith, D .below)) N in
+    record { relaxed = R; next = L; long = S .long; long′ = S .long′; queued = queued-skip Q L }

@@ -1,0 +1,74 @@
+-- Without a run behind the entry, or with one that is not usable, nothing changes. A usable run gets its own feet for a label: at most 52,800, so they
+-- fit 32 bits and lie below the number that stands for no label.
+-- Assumes nothing.
+use mathlib.Core.Path.{_≡_, refl, sym, _∙_}
+use Prim.Native.Nat.{_-_}
+use Rattle.search.specs.Begin.{idle, first}
+use Rattle.search.proofs.TownLaws.{run-of, fair}
+use native.Mathlib.Omega.{arith}
+use borrow.Author.Needs.{needs}
+use Rattle.search.proofs.begin.begin_at.Statement.{statement}
+use Rattle.search.proofs.begin.begin_at.Tie as tie
+
+returns : tie.Need-returns
+returns c = idle (λ r e. absurd (omega (arith, e, c .if1 .taken))) refl refl refl
+
+sub-run : tie.Need-sub-run
+sub-run c = search needs
+
+cast-run : tie.Need-cast-run
+cast-run c = search needs
+
+is-usable-requires : tie.Need-is-usable-requires
+is-usable-requires c κs = run-of (c .before .before .before .before .before .pre .0) (omega arith)
+
+feet-of-requires : tie.Need-feet-of-requires
+feet-of-requires c κs = run-of (c .before .before .before .before .before .before .before .pre .0) (omega arith)
+
+cast-label : tie.Need-cast-label
+cast-label c =
+    let F = fair (c .before .before .before .before .before .before .before .before .pre .0) in
+    omega (arith, c .feet-of .ensures, F .short (c .before .before .before .before .before .before .before .before .args .entry - 1) (omega arith), F .room)
+
+write-label-requires : tie.Need-write-label-requires
+write-label-requires c κs =
+    let s = c .before .before .before .before .before .before .before .before .before .before .before in
+    let F = fair (s .pre .0) in
+    (F .small, omega arith, omega (arith, c .before .before .before .feet-of .ensures, F .short (s .args .entry - 1) (omega arith), F .room), s .pre .2, s .pre .3, s .pre .4)
+
+same-length : tie.Need-same-length
+same-length c = search needs
+
+same-length-2 : tie.Need-same-length-2
+same-length-2 c = search needs
+
+same-length-3 : tie.Need-same-length-3
+same-length-3 c = search needs
+
+returns-2 : tie.Need-returns-2
+returns-2 c = first (rw (c .before .before .before .before .before .before .before .before .before .before .feet-of .ensures) at (c .before .before .before .before .before .before .write-label .ensures)) (omega arith) (sym (c .before .before .before .before .before .before .before .before .before .before .before .before .is-usable .ensures) ∙ c .before .before .before .before .before .before .before .before .before .before .before .if2 .taken)
+
+returns-3 : tie.Need-returns-3
+returns-3 c =
+    idle
+    (λ r e.
+    let s : r ≡ c .before .before .before .before .before .before .before .args .entry - 1 = omega arith in
+    rw s (sym (c .before .is-usable .ensures) ∙ c .if2 .left))
+    refl refl refl
+
+pub begin-at-spec : {M : Type 1} → statement M
+begin-at-spec =
+    tie.close
+    (tie.spec
+    returns
+    sub-run
+    cast-run
+    is-usable-requires
+    feet-of-requires
+    cast-label
+    write-label-requires
+    same-length
+    same-length-2
+    same-length-3
+    returns-2
+    returns-3)

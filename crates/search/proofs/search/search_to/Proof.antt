@@ -1,0 +1,112 @@
+-- Between the rounds the record `Search` holds at the next key. A round settles one run more, so the loop ends; it stops where the next run arrives at
+-- `to`, or where no labelled run is left.
+-- Assumes nothing.
+use mathlib.Core.Path.{_≡_, refl, sym, _∙_}
+use lib.ListN.{length}
+use Rattle.streets.specs.Bicycle.{bicycle}
+use Rattle.search.specs.Search.{arrivesAt}
+use Rattle.search.specs.Town.{townGraph}
+use Rattle.search.proofs.Invariant.{unsettled}
+use Rattle.search.proofs.Rounds.{Search, search-begins, search-due, search-stops, search-ends, search-more, search-less}
+use Rattle.search.proofs.TownLaws.{run-of, fair}
+use native.Mathlib.Omega.{arith}
+use borrow.Author.Needs.{needs}
+use Rattle.search.proofs.search.search_to.Statement.{statement}
+use Rattle.search.proofs.search.search_to.Tie as tie
+
+abbrev Inv-loop : tie.InvT-loop
+Inv-loop net index n tolerance from to best₀ previous₀ tree₀ key₀ best previous tree key =
+    (length best ≡ length best₀)
+    × (length previous ≡ length previous₀)
+    × (length tree ≡ length tree₀)
+    × Search (townGraph net n tolerance from) (arrivesAt (bicycle net) to) best previous tree key
+
+abbrev μ-loop : tie.MeasureT-loop
+μ-loop net index n tolerance from to best₀ previous₀ tree₀ key₀ best previous tree key = unsettled best n key
+
+begin-requires : tie.Need-begin-requires Inv-loop μ-loop
+begin-requires c κs =
+    let s = c .before .before .before .before .before .before .before in
+    (s .pre .0, s .pre .1, s .pre .2, s .pre .3, s .pre .4, s .pre .5, s .pre .6)
+
+least-requires : tie.Need-least-requires Inv-loop μ-loop
+least-requires c κs = c .before .before .before .before .before .before .before .begin .ensures .1 .queue
+
+loop-holds : tie.Need-loop-holds Inv-loop μ-loop
+loop-holds c =
+    let s = c .before .before .before .before .before .before .before .before .before .before .before .before .before .before .before .before in
+    let b = c .before .before .before .before .before .before .before .before .begin in (
+      refl,
+      refl,
+      refl,
+      search-begins _ (fair (s .pre .0)) (b .ensures .0) (omega (arith, s .pre .3, b .kept .1 .1 .1 .1 .1 .0))
+          (omega (arith, s .pre .4, b .kept .1 .1 .1 .1 .1 .1 .0)) (b .ensures .1) (c .least .ensures),
+    )
+
+arrives-at-requires : tie.Need-arrives-at-requires Inv-loop μ-loop
+arrives-at-requires c κs = run-of (c .before .before .before .before .before .before .before .before .before .before .before .before .before .before .before .before .before .before .pre .0) (c .before .loop .inv .3 .whose (c .loop-test .taken) .inside)
+
+same-length : tie.Need-same-length Inv-loop μ-loop
+same-length c = search needs
+
+same-length-2 : tie.Need-same-length-2 Inv-loop μ-loop
+same-length-2 c = search needs
+
+same-length-3 : tie.Need-same-length-3 Inv-loop μ-loop
+same-length-3 c = search needs
+
+returns : tie.Need-returns Inv-loop μ-loop
+returns c = search-stops (fair (c .before .before .before .before .before .before .before .before .before .before .before .before .before .before .before .before .before .before .before .before .pre .0)) (c .before .before .before .loop .inv .3) (c .before .before .loop-test .taken) (sym (c .before .arrives-at .ensures) ∙ c .if1 .taken)
+
+settle-requires : tie.Need-settle-requires Inv-loop μ-loop
+settle-requires c κs =
+    let s = c .before .before .before .before .before .before .before .before .before .before .before .before .before .before .before .before .before .before .before .before .before .before .before in
+    (s .pre .0, s .pre .1, search-due (fair (s .pre .0)) (c .before .before .before .before .before .before .loop .inv .3) (c .before .before .before .before .before .loop-test .taken))
+
+loop-less : tie.Need-loop-less Inv-loop μ-loop
+loop-less c = search-less (fair (c .before .before .before .before .before .before .before .before .before .before .before .before .before .before .before .before .before .before .before .before .before .before .before .before .before .before .before .before .before .before .pre .0)) (c .before .before .before .before .before .before .before .before .before .before .before .before .before .loop .inv .3) (c .before .before .before .before .before .before .before .before .before .before .before .before .loop-test .taken) (c .before .before .before .before .before .before .settle .ensures)
+
+loop-again : tie.Need-loop-again Inv-loop μ-loop
+loop-again c =
+    let i = c .before .before .before .before .before .before .before .before .before .before .before .before .before .loop .inv in
+    let o = c .before .before .before .before .before .before .settle in (
+      o .kept .1 .1 .1 .1 .1 .0 ∙ i .0,
+      o .kept .1 .1 .1 .1 .1 .1 .0 ∙ i .1,
+      o .kept .1 .1 .1 .1 .1 .1 .1 .0 ∙ i .2,
+      search-more (fair (c .before .before .before .before .before .before .before .before .before .before .before .before .before .before .before .before .before .before .before .before .before .before .before .before .before .before .before .before .before .before .pre .0)) (i .3) (c .before .before .before .before .before .before .before .before .before .before .before .before .loop-test .taken) (o .ensures)
+          (sym (c .before .before .before .before .before .before .before .before .before .before .before .arrives-at .ensures) ∙ c .before .before .before .before .before .before .before .before .before .before .if1 .left),
+    )
+
+same-length-4 : tie.Need-same-length-4 Inv-loop μ-loop
+same-length-4 c = search needs
+
+same-length-5 : tie.Need-same-length-5 Inv-loop μ-loop
+same-length-5 c = search needs
+
+same-length-6 : tie.Need-same-length-6 Inv-loop μ-loop
+same-length-6 c = search needs
+
+returns-2 : tie.Need-returns-2 Inv-loop μ-loop
+returns-2 c = search-ends (fair (c .before .before .before .before .before .before .before .before .before .before .before .before .before .before .before .before .before .before .pre .0)) (c .before .loop .inv .3) (c .loop-test .left)
+
+pub search-to-spec : {M : Type 1} → statement M
+search-to-spec =
+    tie.close
+    (tie.spec
+    Inv-loop
+    μ-loop
+    begin-requires
+    least-requires
+    loop-holds
+    arrives-at-requires
+    same-length
+    same-length-2
+    same-length-3
+    returns
+    settle-requires
+    loop-less
+    loop-again
+    same-length-4
+    same-length-5
+    same-length-6
+    returns-2)

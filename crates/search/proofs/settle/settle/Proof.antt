@@ -1,0 +1,54 @@
+-- The run with the least key is taken from the queue, its edges are relaxed, and the front of the queue is then the next key. Nothing else was put or
+-- taken.
+-- Assumes nothing.
+use Rattle.search.proofs.Queueing.{settling-begins, settling-ends}
+use Rattle.search.proofs.TownLaws.{run-of, fair}
+use borrow.Author.Needs.{needs}
+use Rattle.search.proofs.settle.settle.Statement.{statement}
+use Rattle.search.proofs.settle.settle.Tie as tie
+
+cast-label : tie.Need-cast-label
+cast-label c = search needs
+
+put-requires : tie.Need-put-requires
+put-requires c κs = search needs
+
+arrival-of-requires : tie.Need-arrival-of-requires
+arrival-of-requires c κs = (run-of (c .before .before .before .before .before .before .before .before .pre .0) (c .before .before .before .before .before .before .before .before .pre .2 .whose .inside), c .before .before .before .before .before .before .before .before .pre .1)
+
+relax-requires : tie.Need-relax-requires
+relax-requires c κs =
+    let s = c .before .before .before .before .before .before .before .before .before .before .before .before in
+    (s .pre .0, s .pre .1, c .before .before .before .arrival-of .ensures, settling-begins (fair (s .pre .0) .small) (s .pre .2) (c .before .before .before .before .before .before .put .ensures))
+
+least-requires : tie.Need-least-requires
+least-requires c κs = search needs
+
+same-length : tie.Need-same-length
+same-length c = search needs
+
+same-length-2 : tie.Need-same-length-2
+same-length-2 c = search needs
+
+same-length-3 : tie.Need-same-length-3
+same-length-3 c = search needs
+
+returns : tie.Need-returns
+returns c =
+    let s = c .before .before .before .before .before .before .before .before .before .before .before .before .before .before .before .before .before .before .before .before .before in
+    let r = c .before .before .before .before .before .before .before .before .relax .ensures in
+    settling-ends (fair (s .pre .0) .small) (s .pre .2) (r .0) (r .1) (c .least .ensures)
+
+pub settle-spec : {M : Type 1} → statement M
+settle-spec =
+    tie.close
+    (tie.spec
+    cast-label
+    put-requires
+    arrival-of-requires
+    relax-requires
+    least-requires
+    same-length
+    same-length-2
+    same-length-3
+    returns)

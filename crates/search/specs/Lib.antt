@@ -1,0 +1,10 @@
+pub mod Keys
+pub mod Labels
+pub mod Begin
+pub mod Relax
+pub mod Queued
+pub mod Search
+pub mod Trace
+pub mod Leaving
+pub mod Town
+pub mod Answered

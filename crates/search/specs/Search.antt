@@ -1,0 +1,78 @@
+-- The search: label the sources; then settle the labelled runs in rising order of their keys, and relax the edges from each. What is true between two
+-- rounds, what a round does, and where the search stops.
+-- Assumes nothing.
+use mathlib.Core.Path.{_≡_}
+use mathlib.Core.Bool.{Bool, true}
+use mathlib.Core.List.{List}
+use mathlib.Core.Logic.{_⊎_}
+use Prim.Native.Nat.{ℕ, _+_, _*_, _≤_, _<_}
+use lib.Dec.{eqb}
+use lib.ListN.{length}
+use Rattle.routes.specs.Streets.{Streets}
+use Rattle.routes.specs.Labels.{Graph, unlabelled, First, Next, Labels}
+use Rattle.queue.specs.Queue.{top, at}
+use Rattle.search.specs.Keys.{span, labelKey, labelIn, runIn, key, IsKey}
+use Rattle.search.specs.Relax.{Relaxed}
+use Rattle.search.specs.Queued.{Queued, Least}
+
+-- What the search asks of a graph: its runs fit a key, each has a length, and a route of one run more than there are would still fit a label.
+pub record Fair (n : ℕ) (feet : ℕ → ℕ) (most : ℕ) : Type 0 where
+  pub small : n ≤ span
+  pub long : (r : ℕ) → r < n → 1 ≤ feet r
+  pub short : (r : ℕ) → r < n → feet r ≤ most
+  pub room : n * most + most < unlabelled
+
+-- The invariant. Settled are the runs whose key is below m.
+pub record Settled (w : Graph) (best previous : List ℕ) (m : ℕ) : Type 0 where
+  pub bounded : m ≤ top
+  -- L0: each source is labelled, at most its own feet
+  pub sources : (r : ℕ) → r < w .size → w .source r ≡ true → (at best r < unlabelled) × (at best r ≤ w .feet r)
+  -- L1: each label comes from somewhere
+  pub whence : (r : ℕ) → r < w .size → at best r < unlabelled → First w (at best) (at previous) r ⊎ Next w (at best) (at previous) r (at previous r)
+  -- the run before a labelled run is settled
+  pub earlier : (r : ℕ) → r < w .size → at best r < unlabelled → at previous r < w .size → key best (at previous r) < m
+  -- L2: from each settled run every edge leads to a label that is no worse
+  pub edges : (p r : ℕ) → p < w .size → key best p < m → r < w .size → w .edge p r ≡ true
+      → (at best r < unlabelled) × (at best r ≤ at best p + w .feet r)
+
+-- The run with the key m is the next to be settled, and its label has room for one run more.
+pub record Due (n most m : ℕ) (best previous tree : List ℕ) : Type 0 where
+  pub below : m < top
+  pub whose : IsKey best n m
+  pub room : labelIn m + most < unlabelled
+  pub long : n ≤ length best
+  pub long′ : n ≤ length previous
+  pub queued : Queued best tree n m
+
+-- The run u, whose label is base, is taken from the queue, and the edges from it are being relaxed.
+pub record Settling (n most u base : ℕ) (best previous tree : List ℕ) : Type 0 where
+  pub inside : u < n
+  pub room : base + most < unlabelled
+  pub long : n ≤ length best
+  pub long′ : n ≤ length previous
+  pub queued : Queued best tree n (labelKey base u + 1)
+
+-- A round has settled the run with the key m: the edges from it are relaxed, and m′ is the next key.
+pub record Round (edge : ℕ → ℕ → Bool) (feet : ℕ → ℕ) (n m : ℕ) (best previous best′ previous′ tree′ : List ℕ) (m′ : ℕ) : Type 0 where
+  pub relaxed : Relaxed edge feet n (runIn m) (labelIn m) best previous best′ previous′
+  pub next : Least best′ n (m + 1) m′
+  pub long : n ≤ length best′
+  pub long′ : n ≤ length previous′
+  pub queued : Queued best′ tree′ n m′
+
+-- The run arrives at b.
+unfoldable pub arrivesAt : Streets → ℕ → ℕ → Bool
+arrivesAt g b r = eqb (g .finish r) b
+
+-- No settled run is a goal.
+abbrev pub NoGoal : (ℕ → Bool) → List ℕ → ℕ → ℕ → Type 0
+NoGoal goal best n m = (r : ℕ) → r < n → key best r < m → goal r ≡ true → ⊥
+
+-- The search has stopped at m, the key of the first goal in the order of settling; or no goal is labelled, and m is `top`.
+pub record Stop (w : Graph) (goal : ℕ → Bool) (best previous : List ℕ) (m : ℕ) : Type 0 where
+  -- the certificate below m's label; at `top` it is the whole one
+  pub labels : Labels w (at best) (at previous) (labelIn m)
+  pub bounded : m ≤ top
+  pub none : NoGoal goal best (w .size) m
+  pub whose : m < top → IsKey best (w .size) m
+  pub goal-met : m < top → goal (runIn m) ≡ true

@@ -1,0 +1,74 @@
+// A shortest route within a tolerance, from one node to another.
+ghost use mathlib.Core.Path.{_≡_};
+ghost use mathlib.Core.Bool.{true};
+ghost use Prim.Native.Nat.{_+_, _≤_, _<_};
+ghost use lib.ListN.{length};
+ghost use Rattle.format.specs.Network.{nodesOf, isNetwork};
+ghost use Rattle.format.specs.Corners.{cornersOf, Indexed};
+ghost use Rattle.streets.specs.Runs.{runsOf};
+ghost use Rattle.streets.specs.Bicycle.{bicycle};
+ghost use Rattle.search.specs.Answered.{Answered};
+use crate::search::search_to;
+use crate::trace::count_runs;
+use crate::trace::fill;
+use crate::trace::route_level;
+use queue::TOP;
+use streets::runs::segments_of;
+
+pub enum Finding {
+    // No route is within the tolerance.
+    Nothing,
+    // The route that was written.
+    Found {
+        count: usize,
+        length: u32,
+        level: u8,
+    },
+}
+
+// A tree with room for the keys of 2,000 runs.
+fn room_for_keys() -> [u64; 4000]
+    ensures { λ r. ⌜ length r ≡ 4000 ⌝ }
+{
+    [0u64; 4000]
+}
+
+// Writes a shortest route within the tolerance into the buffer from the place on, where there is one.
+pub fn find(
+    net: &[u8],
+    index: &[u16; 8000],
+    from: usize,
+    to: usize,
+    tolerance: usize,
+    best: &mut [u32],
+    previous: &mut [u32],
+    buffer: &mut [u16],
+    place: usize,
+) -> Finding
+    requires { ⌜ (isNetwork (now net) ≡ true) × Indexed (cornersOf (now net)) (now index) × (from < nodesOf (now net)) × (to < nodesOf (now net)) × (1 ≤ tolerance) × (tolerance ≤ 4) × (runsOf (now net) ≤ length (now best)) × (runsOf (now net) ≤ length (now previous)) × (place + runsOf (now net) ≤ length (now buffer)) ⌝ }
+    ensures { λ r. ⌜ Answered (bicycle (now (net .entry))) tolerance from to place (now (buffer .entry)) (now (buffer .exit)) r ⌝ }
+{
+    if from == to {
+        return Finding::Found {
+            count: 0,
+            length: 0,
+            level: 1,
+        };
+    }
+    let n = 2 * segments_of(net);
+    let mut tree = room_for_keys();
+    let t = tolerance as u8;
+    let key = search_to(net, index, n, t, from, to, best, previous, &mut tree);
+    if TOP <= key {
+        return Finding::Nothing;
+    }
+    let last = (key % 65536) as usize;
+    let count = count_runs(previous, n, last);
+    let level = route_level(net, index, n, previous, last, count);
+    fill(previous, n, last, count, &mut buffer[place..]);
+    Finding::Found {
+        count,
+        length: (key / 65536) as u32,
+        level,
+    }
+}

@@ -1,0 +1,51 @@
+// Labels. `best` has for each run the feet from the start to the run's end, and `previous` the run before it; NONE where there is none.
+ghost use mathlib.Core.Path.{_≡_};
+ghost use Prim.Native.Nat.{_≤_, _<_};
+ghost use lib.ListN.{length};
+ghost use Rattle.queue.specs.Queue.{Queue};
+ghost use Rattle.routes.specs.Labels.{unlabelled};
+ghost use Rattle.search.specs.Keys.{span, labelKey};
+ghost use Rattle.search.specs.Labels.{Cleared, LabelWritten};
+use queue::put;
+
+// No label, and no run before.
+pub const NONE: u32 = 4294967295;
+
+// A run's key in the queue: first by label, then by its number.
+fn key_of(label: u32, run: usize) -> u64
+    requires { ⌜ run < span ⌝ }
+    ensures { λ r. ⌜ r ≡ labelKey label run ⌝ }
+{
+    (label as u64) * 65536 + (run as u64)
+}
+
+// Takes the labels of n runs away.
+pub fn clear_labels(n: usize, best: &mut [u32], previous: &mut [u32])
+    requires { ⌜ (n ≤ length (now best)) × (n ≤ length (now previous)) ⌝ }
+    ensures { λ _. ⌜ Cleared (now (best .exit)) (now (previous .exit)) n ⌝ }
+{
+    let mut r = 0;
+    while r < n {
+        best[r] = NONE;
+        previous[r] = NONE;
+        r += 1;
+    }
+}
+
+// Gives a run its label and the run before it, and queues it.
+pub fn write_label(
+    n: usize,
+    run: usize,
+    label: u32,
+    before: u32,
+    best: &mut [u32],
+    previous: &mut [u32],
+    tree: &mut [u64],
+)
+    requires { ⌜ (n ≤ span) × (run < n) × (label < unlabelled) × (n ≤ length (now best)) × (n ≤ length (now previous)) × Queue (now tree) n ⌝ }
+    ensures { λ _. ⌜ LabelWritten n run label before (now (best .entry)) (now (previous .entry)) (now (tree .entry)) (now (best .exit)) (now (previous .exit)) (now (tree .exit)) ⌝ }
+{
+    best[run] = label;
+    previous[run] = before;
+    put(n, run, key_of(label, run), tree);
+}

@@ -1,0 +1,49 @@
+// The rounds of a search.
+ghost use mathlib.Core.Path.{_≡_};
+ghost use Prim.Native.Nat.{_+_, _≤_, _<_};
+ghost use lib.ListN.{length};
+ghost use Rattle.format.specs.Network.{nodesOf};
+ghost use Rattle.format.specs.Corners.{cornersOf, Indexed};
+ghost use Rattle.streets.specs.Runs.{RunOf};
+ghost use Rattle.streets.specs.Bicycle.{bicycle};
+ghost use Rattle.search.specs.Search.{arrivesAt, Stop};
+ghost use Rattle.search.specs.Town.{Town, townGraph};
+use crate::begin::begin;
+use crate::settle::settle;
+use queue::TOP;
+use queue::least;
+use streets::runs::finish_of;
+
+fn arrives_at(net: &[u8], node: usize, run: usize) -> bool
+    requires { ⌜ RunOf (now net) run ⌝ }
+    ensures { λ x. ⌜ x ≡ arrivesAt (bicycle (now (net .entry))) node run ⌝ }
+{
+    finish_of(net, run) == node
+}
+
+// Settles runs in the order of their keys until the next one arrives at `to`, and gives its key; TOP where no labelled run is left.
+pub fn search_to(
+    net: &[u8],
+    index: &[u16; 8000],
+    n: usize,
+    tolerance: u8,
+    from: usize,
+    to: usize,
+    best: &mut [u32],
+    previous: &mut [u32],
+    tree: &mut [u64],
+) -> u64
+    requires { ⌜ Town (now net) n × Indexed (cornersOf (now net)) (now index) × (from < nodesOf (now net)) × (n ≤ length (now best)) × (n ≤ length (now previous)) × (2 ≤ length (now tree)) × (n + n ≤ length (now tree)) ⌝ }
+    ensures { λ r. ⌜ Stop (townGraph (now (net .entry)) n tolerance from) (arrivesAt (bicycle (now (net .entry))) to) (now (best .exit)) (now (previous .exit)) r ⌝ }
+{
+    begin(net, index, n, tolerance, from, best, previous, tree);
+    let mut key = least(n, tree);
+    while key < TOP {
+        let run = (key % 65536) as usize;
+        if arrives_at(net, to, run) {
+            return key;
+        }
+        key = settle(net, index, n, tolerance, key, best, previous, tree);
+    }
+    key
+}
