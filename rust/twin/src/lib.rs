@@ -1,0 +1,53 @@
+//! Bicycle stress levels and least-stress routes on a street network.
+//!
+//! An implementation of "document 01" written from that paper alone, to be
+//! compared with another one. The calls are [`read`], [`judge_segment`],
+//! [`judge_movement`], [`route`] and [`least_stress`]; [`is_network`] is the
+//! paper's test 8. Refusals are the paper's numbers.
+//!
+//! | number | meaning |
+//! |-------:|---------|
+//! | 1 | a line is not whole pairs of uppercase digits ended by 0A, or is empty |
+//! | 2 | check |
+//! | 3 | wrong kind or frame length for its position |
+//! | 4 | a field against the ranges or rules |
+//! | 5 | a segment beyond S, or too few segments |
+//! | 6 | a leg taken already |
+//! | 7 | output too short |
+//! | 8 | the bytes are no network that `read` could keep |
+//! | 9 | a node not below N |
+//! | 10 | tolerance not 1 to 4 |
+//! | 11 | scratch or buffer too short |
+//! | 12 | a segment not below S, or a run not below 2S or not open |
+//! | 13 | no movement |
+//!
+//! Besides the calls there are [`town`], which builds networks field by
+//! field, [`gen`], which draws random towns and damages them on purpose, and
+//! [`oracle`], a slow second implementation that shares no code with the
+//! calls.
+
+#![forbid(unsafe_code)]
+#![deny(missing_docs)]
+#![allow(clippy::manual_is_multiple_of)] // a run's direction is its parity
+
+mod frame;
+mod level;
+mod network;
+mod read;
+mod search;
+
+pub mod gen;
+pub mod oracle;
+pub mod town;
+
+pub use network::{is_network, judge_movement, judge_segment, segment_levels};
+pub use read::read;
+pub use search::{least_stress, route, Found};
+pub use town::{write_text, Town};
+
+/// The most nodes a network can have.
+pub const MAX_NODES: usize = frame::MAX_NODES;
+/// The most segments a network can have.
+pub const MAX_SEGMENTS: usize = frame::MAX_SEGMENTS;
+/// The bytes of the largest network, so the output in which every one fits.
+pub const MAX_NETWORK: usize = frame::HEAD + frame::SEGMENT * frame::MAX_SEGMENTS;

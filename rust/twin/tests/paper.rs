@@ -1,0 +1,303 @@
+//! Every example that the paper prints, through the calls and the oracle.
+
+use twin::oracle::{self, Net};
+use twin::town::{block_town, end, Approach, Segment, Town};
+use twin::town::{CENTRELINE, MEDIAN, RESIDENTIAL};
+use twin::{judge_movement, judge_segment, least_stress, read, route, Found};
+
+/// Level and measure of one street, checked with the oracle.
+fn street(form: u8, lanes: u8, speed: u8, reach: u8, marks: u8) -> (u8, u8) {
+    let segment = Segment::path(end(0, 2), end(1, 6), 500).street(form, lanes, speed, reach, marks);
+    let net = Town::new(2).with(segment).bytes();
+    let answer = judge_segment(&net, 0).expect("a network");
+    assert_eq!(Net::parse(&net).expect("a network").segment(0), Ok(answer));
+    answer
+}
+
+/// Levels straight on and onto the right-hand exit, with this approach.
+fn approach(approach: Approach) -> (u8, u8) {
+    let net = Town::new(4)
+        .with(Segment::path(end(0, 0), end(1, 4), 100).at_b(approach))
+        .with(Segment::path(end(1, 0), end(2, 4), 100))
+        .with(Segment::path(end(1, 3), end(3, 4), 100))
+        .bytes();
+    let answer = (
+        judge_movement(&net, 0, 2).unwrap(),
+        judge_movement(&net, 0, 4).unwrap(),
+    );
+    let oracle = Net::parse(&net).unwrap();
+    assert_eq!(
+        (oracle.movement(0, 2), oracle.movement(0, 4)),
+        (Ok(answer.0), Ok(answer.1))
+    );
+    answer
+}
+
+fn crossing(control: u8, lanes: u8, speed: u8) -> u8 {
+    let (straight, right) = approach(Approach::crossing(control, lanes, speed));
+    assert_eq!(right, 1);
+    straight
+}
+
+fn turn_lane(kind: u8, length: u16, speed: u8) -> u8 {
+    let (straight, right) = approach(Approach::default().turning(kind, length, speed));
+    assert_eq!(straight, right);
+    right
+}
+
+#[test]
+fn mixed_traffic() {
+    assert_eq!(street(0, 2, 25, 0, 0), (1, 5));
+    assert_eq!(street(0, 2, 25, 0, CENTRELINE), (2, 5));
+    assert_eq!(street(0, 3, 25, 0, RESIDENTIAL), (2, 5));
+    assert_eq!(street(0, 2, 26, 0, CENTRELINE), (3, 5));
+    assert_eq!(street(0, 2, 31, 0, CENTRELINE), (4, 5));
+}
+
+#[test]
+fn beside_parking() {
+    assert_eq!(street(1, 1, 25, 27, 0), (3, 2));
+    assert_eq!(street(1, 1, 25, 28, 0), (2, 2));
+    assert_eq!(street(1, 1, 25, 30, 0), (1, 1));
+}
+
+#[test]
+fn without_parking() {
+    assert_eq!(street(2, 2, 30, 12, MEDIAN), (2, 1));
+    assert_eq!(street(2, 1, 35, 12, 0), (3, 3));
+    assert_eq!(street(2, 1, 36, 12, 0), (4, 3));
+}
+
+#[test]
+fn separate_path() {
+    assert_eq!(street(3, 0, 0, 0, 0), (1, 6));
+}
+
+#[test]
+fn crossings() {
+    assert_eq!(crossing(3, 6, 25), 2);
+    assert_eq!(crossing(4, 3, 25), 2);
+    assert_eq!(crossing(4, 3, 26), 4);
+    assert_eq!(crossing(2, 6, 30), 4);
+    assert_eq!(
+        approach(Approach {
+            control: 1,
+            ..Approach::default()
+        }),
+        (1, 1)
+    );
+}
+
+#[test]
+fn turn_lanes() {
+    assert_eq!(turn_lane(3, 75, 15), 1);
+    assert_eq!(turn_lane(3, 76, 15), 3);
+    assert_eq!(turn_lane(3, 151, 15), 4);
+}
+
+/// The rest of the prose on levels, value by value.
+#[test]
+fn tables_as_written() {
+    // Form 0: "To 3 lanes: 1 or 2 to 25 mph, 2 or 3 at 26 to 30, else 4".
+    for speed in 5..=85u8 {
+        for lanes in 1..=12u8 {
+            for marks in 0..16u8 {
+                let low = lanes <= 2 && (marks & RESIDENTIAL != 0 || marks & CENTRELINE == 0);
+                let level = if lanes <= 3 {
+                    if speed <= 25 {
+                        if low {
+                            1
+                        } else {
+                            2
+                        }
+                    } else if speed <= 30 {
+                        if low {
+                            2
+                        } else {
+                            3
+                        }
+                    } else {
+                        4
+                    }
+                } else if lanes <= 5 && speed <= 25 {
+                    3
+                } else {
+                    4
+                };
+                assert_eq!(street(0, lanes, speed, 0, marks), (level, 5));
+            }
+        }
+    }
+    let bands = [5, 25, 26, 30, 31, 35, 36, 85];
+    let no_island = ["124", "124", "124", "124", "234", "234", "344", "344"];
+    let island = ["112", "112", "123", "123", "234", "234", "344", "344"];
+    let one_way = [
+        "1224", "1224", "1244", "1244", "2444", "2444", "4444", "4444",
+    ];
+    for (i, speed) in bands.into_iter().enumerate() {
+        let digit = |text: &str, at: usize| text.as_bytes()[at] - b'0';
+        for lanes in 1..=12usize {
+            let wide = [0, 0, 0, 0, 1, 1, 2, 2, 2, 2, 2, 2, 2][lanes];
+            let lane = lanes.min(4) - 1;
+            assert_eq!(crossing(2, lanes as u8, speed), digit(no_island[i], wide));
+            assert_eq!(crossing(3, lanes as u8, speed), digit(island[i], wide));
+            assert_eq!(crossing(4, lanes as u8, speed), digit(one_way[i], lane));
+        }
+    }
+    for (kind, length, speed, level) in [
+        (1, 1, 5, 2),
+        (1, 150, 15, 2),
+        (1, 151, 15, 3),
+        (1, 150, 16, 3),
+        (1, 2_000, 20, 3),
+        (1, 1, 21, 4),
+        (2, 2_000, 15, 3),
+        (2, 1, 16, 4),
+        (3, 1, 5, 1),
+        (3, 75, 16, 4),
+        (3, 150, 15, 3),
+        (3, 150, 16, 4),
+        (3, 151, 15, 4),
+    ] {
+        assert_eq!(
+            turn_lane(kind, length, speed),
+            level,
+            "{kind} {length} {speed}"
+        );
+    }
+}
+
+/// The greater of turn lane and crossing, the turn lane alone to the right.
+#[test]
+fn both_on_one_approach() {
+    let both = |kind, length, speed, control, lanes, mph| {
+        approach(Approach::crossing(control, lanes, mph).turning(kind, length, speed))
+    };
+    assert_eq!(both(1, 100, 15, 2, 6, 25), (4, 2));
+    assert_eq!(both(2, 100, 15, 2, 4, 25), (3, 3));
+    assert_eq!(both(3, 200, 15, 3, 4, 25), (4, 4));
+}
+
+struct Lent {
+    best: Vec<u32>,
+    previous: Vec<u32>,
+    buffer: Vec<u16>,
+}
+
+fn lent(segments: usize) -> Lent {
+    Lent {
+        best: vec![77; 2 * segments],
+        previous: vec![78; 2 * segments],
+        buffer: vec![60_000; 2 * segments + 5],
+    }
+}
+
+#[test]
+fn block_town_at_each_tolerance() {
+    let net = block_town().bytes();
+    for tolerance in 1..=3 {
+        let mut l = lent(3);
+        let found = route(
+            &net,
+            0,
+            2,
+            tolerance,
+            &mut l.best,
+            &mut l.previous,
+            &mut l.buffer,
+            2,
+        )
+        .unwrap();
+        assert_eq!(
+            found,
+            Some(Found {
+                count: 3,
+                length: 1_500,
+                level: 1
+            })
+        );
+        assert_eq!(
+            l.buffer,
+            [60_000, 60_000, 0, 2, 4, 60_000, 60_000, 60_000, 60_000, 60_000, 60_000]
+        );
+    }
+    let mut l = lent(3);
+    let found = route(
+        &net,
+        0,
+        2,
+        4,
+        &mut l.best,
+        &mut l.previous,
+        &mut l.buffer,
+        0,
+    )
+    .unwrap();
+    assert_eq!(
+        found,
+        Some(Found {
+            count: 2,
+            length: 600,
+            level: 4
+        })
+    );
+    assert_eq!(l.buffer[..3], [0, 4, 60_000]);
+
+    let mut l = lent(3);
+    let found = least_stress(&net, 0, 2, &mut l.best, &mut l.previous, &mut l.buffer, 5).unwrap();
+    assert_eq!(
+        found,
+        Some((
+            Found {
+                count: 3,
+                length: 1_500,
+                level: 1
+            },
+            1
+        ))
+    );
+    assert_eq!(l.buffer[4..9], [60_000, 0, 2, 4, 60_000]);
+
+    // Back there is nothing to cross.
+    let mut l = lent(3);
+    let found = least_stress(&net, 2, 0, &mut l.best, &mut l.previous, &mut l.buffer, 0).unwrap();
+    assert_eq!(
+        found,
+        Some((
+            Found {
+                count: 2,
+                length: 600,
+                level: 1
+            },
+            1
+        ))
+    );
+}
+
+/// The paper's two inputs of program levels, as bytes.
+fn printed_inputs() -> (Vec<u8>, Vec<u8>) {
+    let refused =
+        b"010100020001FB\n0200000200010601f400030219000100000000000000000000000000000000E1 \n";
+    let mut accepted = b"010100020001FB\n0200000200010601F4000302190001".to_vec();
+    accepted.extend([b'0'; 28]);
+    accepted.extend(b"E1\n");
+    (refused.to_vec(), accepted)
+}
+
+#[test]
+fn program_levels() {
+    let (refused, accepted) = printed_inputs();
+    let mut output = [9; twin::MAX_NETWORK];
+    assert_eq!(read(&refused, &mut output), Err((1, 2)));
+    assert_eq!(oracle::levels(&refused), "refused 1 2\n");
+    assert!(output.iter().all(|&b| b == 9));
+    assert_eq!(read(&accepted, &mut output), Ok(37));
+    assert!(output[37..].iter().all(|&b| b == 9));
+    assert_eq!(judge_segment(&output[..37], 0), Ok((2, 5)));
+    assert_eq!(oracle::levels(&accepted), "0 2 5\n");
+    // As the builder makes it.
+    let town =
+        Town::new(2).with(Segment::path(end(0, 2), end(1, 6), 500).street(0, 2, 25, 0, CENTRELINE));
+    assert_eq!(town.text(), accepted);
+    assert_eq!(town.bytes(), output[..37]);
+}

@@ -1,0 +1,519 @@
+//! Each refusal, its order among the others, and what it leaves alone.
+
+use twin::gen::{self, damage, damage_kept, Rng, Shape, Spot};
+use twin::oracle::{self, Net};
+use twin::town::{block_town, check, end, head, line, Segment, Town};
+use twin::{is_network, judge_movement, judge_segment, least_stress, read, route, Found};
+
+/// Reads twice, here and with the oracle, and tests what the output keeps.
+fn answer(text: &[u8], room: usize) -> Result<usize, (u8, usize)> {
+    let mut output: Vec<u8> = (0..room).map(|i| (i * 7 + 3) as u8).collect();
+    let before = output.clone();
+    let answer = read(text, &mut output);
+    match (answer, oracle::read(text, room)) {
+        (Ok(written), Ok(kept)) => {
+            assert_eq!(written, kept.len());
+            assert_eq!(output[..written], kept);
+            assert_eq!(output[written..], before[written..]);
+            assert!(is_network(&kept));
+        }
+        (Err(one), Err(other)) => {
+            assert_eq!(one, other, "{:?}", String::from_utf8_lossy(text));
+            assert_eq!(output, before);
+        }
+        (one, other) => panic!(
+            "{one:?} and {other:?} for {:?}",
+            String::from_utf8_lossy(text)
+        ),
+    }
+    answer
+}
+
+fn full(text: &[u8]) -> Result<usize, (u8, usize)> {
+    answer(text, 30_007)
+}
+
+fn sealed(mut body: Vec<u8>) -> Vec<u8> {
+    body.push(check(&body));
+    body
+}
+
+fn lines(frames: &[&[u8]]) -> Vec<u8> {
+    frames.iter().flat_map(|frame| line(frame)).collect()
+}
+
+fn path(a: (u16, u8), b: (u16, u8)) -> Segment {
+    Segment::path(end(a.0, a.1), end(b.0, b.1), 100)
+}
+
+#[test]
+fn empty_and_ends() {
+    assert_eq!(full(b""), Err((3, 1)));
+    assert_eq!(full(b"\n"), Err((1, 1)));
+    assert_eq!(full(b"\n\n"), Err((1, 1)));
+    assert_eq!(full(b"0"), Err((1, 1)));
+    assert_eq!(full(b"00"), Err((1, 1)));
+    assert_eq!(full(b"00\n"), Err((3, 1)));
+    assert_eq!(full(b"01\n"), Err((2, 1)));
+    let empty = Town::new(1).text();
+    assert_eq!(empty, b"010100010000FD\n");
+    assert_eq!(full(&empty), Ok(7));
+    assert_eq!(full(&empty[..14]), Err((1, 1)));
+    assert_eq!(full(&[&empty[..], b"\n"].concat()), Err((1, 2)));
+    assert_eq!(full(&[&empty[..], b"0"].concat()), Err((1, 2)));
+    assert_eq!(full(&[&empty[..], b"00\n"].concat()), Err((3, 2)));
+    let block = block_town().text();
+    assert_eq!(full(&block), Ok(97));
+    assert_eq!(full(&[&block[..], b"\n"].concat()), Err((1, 5)));
+    assert_eq!(full(&block[..block.len() - 1]), Err((1, 4)));
+}
+
+#[test]
+fn heads() {
+    assert_eq!(full(&line(&head(1_000, 0))), Ok(7));
+    for (frame, number) in [
+        (head(0, 0), 4),
+        (head(1_001, 0), 4),
+        (head(1, 1_001), 4),
+        (sealed(vec![1, 0, 0, 1, 0, 0]), 4),
+        (sealed(vec![1, 2, 0, 1, 0, 0]), 4),
+        (sealed(vec![2, 1, 0, 1, 0, 0]), 3),
+        (sealed(vec![2, 9, 0, 0, 9, 9]), 3),
+        (sealed(vec![1, 1, 0, 1, 0, 0, 0]), 3),
+        (sealed(vec![1, 1, 0, 1, 0]), 3),
+        (vec![1, 1, 0, 1, 0, 0, 0], 2),
+        (vec![9, 1, 0, 1, 0, 0, 0], 2),
+    ] {
+        assert_eq!(full(&line(&frame)), Err((number, 1)), "{frame:?}");
+    }
+}
+
+#[test]
+fn order_within_a_line() {
+    let first = path((0, 0), (1, 0)).frame();
+    let head1 = head(2, 1);
+    let head2 = head(2, 2);
+    let mut twice = path((0, 0), (1, 1));
+    // 6 alone, by an earlier frame and by the frame's other end.
+    assert_eq!(full(&lines(&[&head2, &first, &twice.frame()])), Err((6, 3)));
+    let own = path((1, 3), (1, 3)).frame();
+    assert_eq!(full(&lines(&[&head2, &first, &own])), Err((6, 3)));
+    // 4 before 6.
+    twice.ways = 0;
+    assert_eq!(full(&lines(&[&head2, &first, &twice.frame()])), Err((4, 3)));
+    // 5 before 4 and 6.
+    assert_eq!(full(&lines(&[&head1, &first, &twice.frame()])), Err((5, 3)));
+    // 3 before 5.
+    let mut wrong = twice.frame();
+    wrong[0] = 3;
+    gen::seal(&mut wrong);
+    assert_eq!(full(&lines(&[&head1, &first, &wrong])), Err((3, 3)));
+    assert_eq!(full(&lines(&[&head1, &first, &head1])), Err((3, 3)));
+    // 2 before 3.
+    wrong[29] ^= 1;
+    assert_eq!(full(&lines(&[&head1, &first, &wrong])), Err((2, 3)));
+    // 1 before 2.
+    let mut text = lines(&[&head1, &first, &wrong]);
+    let at = text.len() - 2;
+    text[at] = b'x';
+    assert_eq!(full(&text), Err((1, 3)));
+    text[at] = b'0';
+    text.pop();
+    assert_eq!(full(&text), Err((1, 3)));
+}
+
+#[test]
+fn output_too_short() {
+    let town = block_town();
+    let text = town.text();
+    for room in 0..97 {
+        assert_eq!(answer(&text, room), Err((7, 1)));
+    }
+    assert_eq!(answer(&text, 97), Ok(97));
+    // Before anything of line 2, but after all of line 1.
+    let head_only = &text[..15];
+    assert_eq!(answer(head_only, 96), Err((7, 1)));
+    assert_eq!(answer(head_only, 97), Err((5, 2)));
+    assert_eq!(answer(&[head_only, b"zz"].concat(), 96), Err((7, 1)));
+    assert_eq!(answer(&[head_only, b"zz"].concat(), 97), Err((1, 2)));
+    assert_eq!(answer(&line(&head(3, 1_001)), 0), Err((4, 1)));
+    assert_eq!(answer(&text[..14], 0), Err((1, 1)));
+    assert_eq!(answer(b"", 0), Err((3, 1)));
+    assert_eq!(answer(&Town::new(1).text(), 6), Err((7, 1)));
+}
+
+#[test]
+fn numbers_of_segments() {
+    let one = path((0, 0), (1, 0)).frame();
+    let two = path((0, 1), (1, 1)).frame();
+    assert_eq!(full(&lines(&[&head(2, 1), &one])), Ok(37));
+    assert_eq!(full(&lines(&[&head(2, 0), &one])), Err((5, 2)));
+    assert_eq!(full(&lines(&[&head(2, 1), &one, &two])), Err((5, 3)));
+    assert_eq!(full(&lines(&[&head(2, 3), &one, &two])), Err((5, 4)));
+    assert_eq!(full(&lines(&[&head(2, 1_000)])), Err((5, 2)));
+}
+
+#[test]
+fn segment_fields() {
+    let good = path((0, 0), (1, 0))
+        .street(1, 1, 25, 30, 0)
+        .at_b(twin::town::Approach::crossing(2, 3, 25).turning(1, 100, 15));
+    let try_one = |s: Segment| full(&Town::new(2).with(s).text());
+    assert_eq!(try_one(good), Ok(37));
+    let bad = |change: &dyn Fn(&mut Segment)| {
+        let mut s = good;
+        change(&mut s);
+        assert_eq!(try_one(s), Err((4, 2)), "{s:?}");
+        assert!(!is_network(&Town::new(2).with(s).bytes()));
+    };
+    let fine = |change: &dyn Fn(&mut Segment)| {
+        let mut s = good;
+        change(&mut s);
+        assert_eq!(try_one(s), Ok(37), "{s:?}");
+    };
+    bad(&|s| s.a.node = 2);
+    bad(&|s| s.b.node = 2);
+    bad(&|s| s.a.node = 256);
+    bad(&|s| s.a.leg = 8);
+    bad(&|s| s.b.leg = 8);
+    fine(&|s| s.b.leg = 7);
+    for length in [0, 52_801, 65_535] {
+        bad(&|s| s.length = length);
+    }
+    for length in [1, 255, 256, 52_800] {
+        fine(&|s| s.length = length);
+    }
+    for form in 4..=255 {
+        bad(&|s| s.form = form);
+    }
+    bad(&|s| s.form = 0); // reach 30
+    bad(&|s| s.form = 3);
+    fine(&|s| s.form = 2);
+    for ways in 0..=255 {
+        if (1..=3).contains(&ways) {
+            fine(&|s| s.ways = ways)
+        } else {
+            bad(&|s| s.ways = ways)
+        }
+    }
+    for n in 0..=255 {
+        if (1..=12).contains(&n) {
+            fine(&|s| s.lanes = n)
+        } else {
+            bad(&|s| s.lanes = n)
+        }
+        if (5..=85).contains(&n) {
+            fine(&|s| s.speed = n)
+        } else {
+            bad(&|s| s.speed = n)
+        }
+        if n <= 60 {
+            fine(&|s| s.reach = n)
+        } else {
+            bad(&|s| s.reach = n)
+        }
+        if n <= 15 {
+            fine(&|s| s.marks = n)
+        } else {
+            bad(&|s| s.marks = n)
+        }
+        if (2..=4).contains(&n) {
+            fine(&|s| s.at_b.control = n)
+        } else {
+            bad(&|s| s.at_b.control = n)
+        }
+        if (1..=12).contains(&n) {
+            fine(&|s| s.at_b.lanes = n)
+        } else {
+            bad(&|s| s.at_b.lanes = n)
+        }
+        if (5..=85).contains(&n) {
+            fine(&|s| s.at_b.speed = n)
+        } else {
+            bad(&|s| s.at_b.speed = n)
+        }
+        if (1..=3).contains(&n) {
+            fine(&|s| s.at_b.turn = n)
+        } else {
+            bad(&|s| s.at_b.turn = n)
+        }
+        if (5..=85).contains(&n) {
+            fine(&|s| s.at_b.turn_speed = n)
+        } else {
+            bad(&|s| s.at_b.turn_speed = n)
+        }
+        // The approach at A crosses nothing.
+        if n <= 1 {
+            fine(&|s| s.at_a.control = n)
+        } else {
+            bad(&|s| s.at_a.control = n)
+        }
+        if n > 0 {
+            bad(&|s| s.at_a.lanes = n);
+            bad(&|s| s.at_a.speed = n);
+            bad(&|s| s.at_a.turn = n);
+            bad(&|s| s.at_a.turn_length = u16::from(n));
+            bad(&|s| s.at_a.turn_length = u16::from(n) << 8);
+            bad(&|s| s.at_a.turn_speed = n);
+        }
+    }
+    for length in [1, 255, 256, 2_000] {
+        fine(&|s| s.at_b.turn_length = length);
+    }
+    for length in [0, 2_001, 65_535] {
+        bad(&|s| s.at_b.turn_length = length);
+    }
+    // A path has lanes, speed, reach and marks 0.
+    let path = path((0, 0), (1, 0));
+    for one in [(1, 0, 0, 0), (0, 5, 0, 0), (0, 0, 1, 0), (0, 0, 0, 1)] {
+        let s = path.street(3, one.0, one.1, one.2, one.3);
+        assert_eq!(try_one(s), Err((4, 2)));
+    }
+}
+
+#[test]
+fn damage_meets_its_number() {
+    let mut rng = Rng::new(5);
+    let mut met = [0; 8];
+    for seed in 0..400 {
+        let shape = Shape::ALL[seed as usize % Shape::ALL.len()];
+        let segments = rng.range(0, 40);
+        let net = gen::town(shape, seed, segments).bytes();
+        assert!(is_network(&net));
+        for number in 1..=7 {
+            for spot in Spot::ALL {
+                if let Some(d) = damage(&mut rng, &net, number, spot) {
+                    assert_eq!(answer(&d.text, d.output), Err(d.refusal), "{}", d.what);
+                    met[usize::from(number)] += 1;
+                }
+            }
+        }
+    }
+    assert!(met[1..].iter().all(|&n| n > 500), "{met:?}");
+}
+
+/// Texts changed at random: here and the oracle must answer alike.
+#[test]
+fn changed_texts() {
+    let mut rng = Rng::new(6);
+    for seed in 0..6_000 {
+        let shape = Shape::ALL[seed as usize % Shape::ALL.len()];
+        let segments = rng.range(0, 8);
+        let mut text = gen::town(shape, seed, segments).text();
+        for _ in 0..rng.range(1, 3) {
+            let at = rng.below(text.len());
+            match rng.below(6) {
+                0 => text[at] = rng.bits() as u8,
+                1 => text[at] = rng.pick(b"0123456789ABCDEF"),
+                2 => {
+                    text.remove(at);
+                }
+                3 => text.insert(at, rng.pick(b"0A\nFg \r")),
+                4 => text.truncate(at),
+                _ => {
+                    // Two digits of one line changed so that the check stays.
+                    let other = (at / 61) * 61 + rng.below(61);
+                    if let Some(&digit) = text.get(other) {
+                        text[other] = text[at];
+                        text[at] = digit;
+                    }
+                }
+            }
+            if text.is_empty() {
+                break;
+            }
+        }
+        let room = rng.pick(&[30_007, 30_007, 7, 67, 100, 0]);
+        let _ = answer(&text, room);
+    }
+}
+
+/// Fields changed and sealed again, so that 4 and 6 are often reached.
+#[test]
+fn changed_fields() {
+    let mut rng = Rng::new(7);
+    let mut answers = [0; 8];
+    for seed in 0..20_000 {
+        let shape = Shape::ALL[seed as usize % Shape::ALL.len()];
+        let segments = rng.range(1, 6);
+        let town = gen::town(shape, seed, segments);
+        let mut frames: Vec<Vec<u8>> = vec![town.head()];
+        frames.extend(town.segments.iter().map(Segment::frame));
+        let place = rng.below(frames.len());
+        let frame = &mut frames[place];
+        let at = rng.below(frame.len());
+        frame[at] = rng.pick(&[0, 1, 2, 3, 4, 5, 7, 8, 12, 13, 60, 61, 85, 86, 255]);
+        gen::seal(frame);
+        let kept = frames.concat();
+        let text: Vec<u8> = frames.iter().flat_map(|frame| line(frame)).collect();
+        let number = full(&text).map_or_else(|(number, _)| number, |_| 0);
+        answers[usize::from(number)] += 1;
+        assert_eq!(is_network(&kept), number == 0);
+        assert_eq!(Net::parse(&kept).is_some(), number == 0);
+    }
+    assert!(
+        [0, 3, 4, 5, 6].iter().all(|&n: &usize| answers[n] > 50),
+        "{answers:?}"
+    );
+}
+
+#[test]
+fn kept_bytes() {
+    let mut rng = Rng::new(8);
+    for seed in 0..5_000 {
+        let shape = Shape::ALL[seed as usize % Shape::ALL.len()];
+        let segments = rng.range(0, 12);
+        let net = gen::town(shape, seed, segments).bytes();
+        assert!(is_network(&net) && Net::parse(&net).is_some());
+        let bad = damage_kept(&mut rng, &net);
+        assert!(
+            !is_network(&bad) && Net::parse(&bad).is_none(),
+            "{net:?} {bad:?}"
+        );
+        refused_everywhere(&bad);
+    }
+    for length in 0..200 {
+        refused_everywhere(&vec![0; length]);
+    }
+}
+
+/// 8 from every call, whatever else is wrong, and nothing written.
+fn refused_everywhere(bad: &[u8]) {
+    let (mut best, mut previous, mut buffer) = ([1; 4], [2; 4], [3; 4]);
+    assert_eq!(judge_segment(bad, 5_000), Err(8));
+    assert_eq!(twin::segment_levels(bad).err(), Some(8));
+    assert_eq!(judge_movement(bad, 5_000, 0), Err(8));
+    assert_eq!(
+        route(bad, 9_999, 0, 0, &mut best, &mut previous, &mut buffer, 9),
+        Err(8)
+    );
+    assert_eq!(
+        least_stress(bad, 9_999, 0, &mut best, &mut previous, &mut buffer, 9),
+        Err(8)
+    );
+    assert_eq!((best, previous, buffer), ([1; 4], [2; 4], [3; 4]));
+}
+
+#[test]
+fn refusals_of_the_judges() {
+    let mut town = block_town();
+    town.segments[1].ways = 1;
+    let net = town.bytes();
+    assert_eq!(judge_segment(&net, 2), Ok((1, 6)));
+    assert_eq!(judge_segment(&net, 3), Err(12));
+    assert_eq!(judge_segment(&net, usize::MAX), Err(12));
+    assert_eq!(judge_movement(&net, 0, 6), Err(12));
+    assert_eq!(judge_movement(&net, 6, 0), Err(12));
+    assert_eq!(judge_movement(&net, usize::MAX, usize::MAX), Err(12));
+    assert_eq!(judge_movement(&net, 0, 3), Err(12), "closed");
+    assert_eq!(judge_movement(&net, 3, 0), Err(12), "closed");
+    assert_eq!(
+        judge_movement(&net, 4, 3),
+        Err(12),
+        "closed, and no movement either"
+    );
+    assert_eq!(judge_movement(&net, 0, 0), Err(13));
+    assert_eq!(judge_movement(&net, 0, 1), Err(13), "back by the same leg");
+    assert_eq!(judge_movement(&net, 4, 0), Err(13), "another node");
+    assert_eq!(judge_movement(&net, 0, 2), Ok(1), "the right-hand exit");
+    assert_eq!(judge_movement(&net, 0, 4), Ok(4));
+    assert_eq!(judge_movement(&net, 2, 2), Ok(1), "a loop after itself");
+    let net = block_town().bytes();
+    assert_eq!(judge_movement(&net, 2, 3), Err(13), "a loop turned round");
+    assert_eq!(judge_movement(&net, 3, 3), Ok(1));
+    assert_eq!(judge_movement(&net, 0, 3), Ok(4));
+}
+
+#[test]
+fn refusals_of_the_routes() {
+    let net = block_town().bytes();
+    // from, to, tolerance, best, previous, buffer, place; then Route's and
+    // Least stress's refusal.
+    for (from, to, tolerance, best, previous, buffer, place, one, other) in [
+        (3, 0, 0, 0, 0, 0, 1, 9, 9),
+        (0, 3, 0, 0, 0, 0, 1, 9, 9),
+        (usize::MAX, usize::MAX, 2, 6, 6, 6, 0, 9, 9),
+        (0, 2, 0, 5, 6, 6, 0, 10, 11),
+        (0, 2, 5, 6, 5, 6, 0, 10, 11),
+        (0, 2, 255, 6, 5, 6, 0, 10, 11),
+        (0, 2, 4, 5, 6, 6, 0, 11, 11),
+        (0, 2, 4, 6, 5, 6, 0, 11, 11),
+        (0, 2, 4, 6, 6, 5, 0, 11, 11),
+        (0, 2, 4, 6, 6, 6, 1, 11, 11),
+        (0, 2, 4, 6, 6, 6, 6, 11, 11),
+        (0, 2, 4, 6, 6, 6, 7, 11, 11),
+        (0, 2, 4, 6, 6, 6, usize::MAX, 11, 11),
+        (1, 1, 4, 6, 6, 7, 2, 11, 11),
+    ] {
+        let (mut best, mut previous, mut buffer) =
+            (vec![1; best], vec![2; previous], vec![3; buffer]);
+        let answer = route(
+            &net,
+            from,
+            to,
+            tolerance,
+            &mut best,
+            &mut previous,
+            &mut buffer,
+            place,
+        );
+        assert_eq!(answer, Err(one));
+        let answer = least_stress(&net, from, to, &mut best, &mut previous, &mut buffer, place);
+        assert_eq!(answer, Err(other));
+        assert!(best.iter().all(|&n| n == 1));
+        assert!(previous.iter().all(|&n| n == 2));
+        assert!(buffer.iter().all(|&n| n == 3));
+    }
+}
+
+#[test]
+fn no_segments() {
+    let net = Town::new(2).bytes();
+    let empty = Found {
+        count: 0,
+        length: 0,
+        level: 1,
+    };
+    assert_eq!(judge_segment(&net, 0), Err(12));
+    assert_eq!(judge_movement(&net, 0, 0), Err(12));
+    for length in 0..3 {
+        let mut buffer = vec![3; length];
+        for place in 0..=length {
+            for tolerance in 1..=4 {
+                let mut go =
+                    |a, b| route(&net, a, b, tolerance, &mut [], &mut [], &mut buffer, place);
+                assert_eq!(go(0, 0), Ok(Some(empty)));
+                assert_eq!(go(1, 1), Ok(Some(empty)));
+                assert_eq!(go(0, 1), Ok(None));
+            }
+            let mut go = |a, b| least_stress(&net, a, b, &mut [], &mut [], &mut buffer, place);
+            assert_eq!(go(0, 0), Ok(Some((empty, 1))));
+            assert_eq!(go(0, 1), Ok(None));
+        }
+        assert_eq!(
+            route(&net, 0, 0, 1, &mut [], &mut [], &mut buffer, length + 1),
+            Err(11)
+        );
+        assert_eq!(
+            least_stress(&net, 0, 0, &mut [], &mut [], &mut buffer, length + 1),
+            Err(11)
+        );
+        assert_eq!(
+            route(&net, 0, 2, 1, &mut [], &mut [], &mut buffer, length),
+            Err(9)
+        );
+        assert!(buffer.iter().all(|&n| n == 3));
+    }
+}
+
+#[test]
+fn noise() {
+    let mut rng = Rng::new(9);
+    for _ in 0..5_000 {
+        let length = rng.below(100);
+        let text: Vec<u8> = (0..length).map(|_| rng.bits() as u8).collect();
+        let _ = full(&text);
+        let text: Vec<u8> = (0..length).map(|_| rng.pick(b"000012AF\n")).collect();
+        let _ = full(&text);
+    }
+}

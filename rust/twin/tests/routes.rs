@@ -1,0 +1,356 @@
+//! The fast calls against the oracle.
+
+use twin::gen::{self, Rng, Shape};
+use twin::oracle::Net;
+use twin::town::{block_town, end, Approach, Segment, Town};
+use twin::{judge_movement, judge_segment, least_stress, route, segment_levels, Found};
+
+/// Tests every tolerance and Least stress from one node to some others.
+fn from_node(
+    rng: &mut Rng,
+    net: &[u8],
+    oracle: &Net,
+    movements: &[(usize, usize, u8)],
+    from: usize,
+    goals: &[usize],
+) -> usize {
+    let runs = oracle.runs();
+    let lengths: Vec<Vec<Option<u32>>> = (1..=4)
+        .map(|tolerance| oracle.lengths(movements, from, tolerance))
+        .collect();
+    let mut found_any = 0;
+    for &to in goals {
+        for tolerance in 1..=5u8 {
+            let (more, before, after) = (rng.below(3), rng.below(4), rng.below(4));
+            let mut best: Vec<u32> = (0..runs + more).map(|_| rng.bits() as u32).collect();
+            let mut previous: Vec<u32> = (0..runs + more / 2).map(|_| rng.bits() as u32).collect();
+            let filled: Vec<u16> = (0..before + runs + after)
+                .map(|_| rng.bits() as u16)
+                .collect();
+            let mut buffer = filled.clone();
+            let (answer, within) = if tolerance <= 4 {
+                let answer = route(
+                    net,
+                    from,
+                    to,
+                    tolerance,
+                    &mut best,
+                    &mut previous,
+                    &mut buffer,
+                    before,
+                );
+                (answer.expect("no refusal"), tolerance)
+            } else {
+                let least = (1..=4).find(|t| lengths[t - 1][to].is_some());
+                let answer =
+                    least_stress(net, from, to, &mut best, &mut previous, &mut buffer, before)
+                        .expect("no refusal");
+                assert_eq!(answer.map(|(_, t)| usize::from(t)), least);
+                (answer.map(|(found, _)| found), least.unwrap_or(4) as u8)
+            };
+            assert_eq!(
+                answer.map(|found| found.length),
+                lengths[usize::from(within) - 1][to]
+            );
+            match answer {
+                None => assert_eq!(buffer, filled),
+                Some(Found {
+                    count,
+                    length,
+                    level,
+                }) => {
+                    let list = &buffer[before..before + count];
+                    oracle
+                        .check_route(from, to, within, list, count, length, level)
+                        .unwrap();
+                    assert_eq!(buffer[..before], filled[..before]);
+                    assert_eq!(buffer[before + count..], filled[before + count..]);
+                    found_any += usize::from(count > 0);
+                }
+            }
+        }
+    }
+    found_any
+}
+
+/// Some thousands of small towns, every pair of nodes in the smallest; as many
+/// as the variable TOWNS says, if it is set.
+#[test]
+fn small_towns() {
+    let towns = std::env::var("TOWNS")
+        .ok()
+        .and_then(|n| n.parse().ok())
+        .unwrap_or(6_500);
+    let mut rng = Rng::new(1);
+    let mut found = 0;
+    for seed in 0..towns {
+        let shape = Shape::ALL[seed as usize % Shape::ALL.len()];
+        let segments = rng.range(0, 14);
+        let net = gen::town(shape, seed, segments).bytes();
+        let oracle = Net::parse(&net).expect("a network");
+        let movements = oracle.movements();
+        let goals: Vec<usize> = if oracle.nodes() <= 8 {
+            (0..oracle.nodes()).collect()
+        } else {
+            let streets = if oracle.segments() == 0 {
+                vec![]
+            } else {
+                ends(&net)
+            };
+            let mut goals = vec![0, oracle.nodes() - 1];
+            goals.extend(streets.into_iter().take(8));
+            goals
+        };
+        for &from in goals.iter().take(4) {
+            found += from_node(&mut rng, &net, &oracle, &movements, from, &goals);
+        }
+    }
+    assert!(found > 7 * towns as usize, "{found}");
+    println!("{towns} towns, {found} routes that are not empty");
+}
+
+/// The nodes at which the segments of a network end.
+fn ends(net: &[u8]) -> Vec<usize> {
+    net[7..]
+        .chunks(30)
+        .flat_map(|f| [[f[1], f[2]], [f[4], f[5]]])
+        .map(|pair| usize::from(u16::from_be_bytes(pair)))
+        .collect()
+}
+
+#[test]
+fn middle_towns() {
+    let mut rng = Rng::new(2);
+    for seed in 0..130 {
+        let shape = Shape::ALL[seed as usize % Shape::ALL.len()];
+        let segments = rng.range(60, 160);
+        let net = gen::town(shape, 50_000 + seed, segments).bytes();
+        let oracle = Net::parse(&net).expect("a network");
+        let movements = oracle.movements();
+        let nodes = oracle.nodes();
+        for _ in 0..3 {
+            let goals: Vec<usize> = (0..12).map(|_| rng.below(nodes)).collect();
+            let from = rng.below(nodes);
+            from_node(&mut rng, &net, &oracle, &movements, from, &goals);
+        }
+    }
+}
+
+#[test]
+fn full_towns() {
+    let mut rng = Rng::new(3);
+    for (i, shape) in Shape::ALL.into_iter().enumerate() {
+        let net = gen::town(shape, 90_000 + i as u64, 1_000).bytes();
+        let oracle = Net::parse(&net).expect("a network");
+        let movements = oracle.movements();
+        let nodes = oracle.nodes();
+        let goals: Vec<usize> = (0..20).map(|_| rng.below(nodes)).collect();
+        let from = rng.below(nodes);
+        from_node(&mut rng, &net, &oracle, &movements, from, &goals);
+    }
+}
+
+/// Every segment and every pair of runs of small towns.
+#[test]
+fn judgements() {
+    let mut rng = Rng::new(4);
+    let mut seen = [0; 5];
+    for seed in 0..1_300 {
+        let shape = Shape::ALL[seed as usize % Shape::ALL.len()];
+        let segments = rng.range(0, 7);
+        let net = gen::town(shape, 70_000 + seed, segments).bytes();
+        let oracle = Net::parse(&net).expect("a network");
+        for s in 0..oracle.segments() + 2 {
+            assert_eq!(judge_segment(&net, s), oracle.segment(s));
+        }
+        let all: Vec<_> = segment_levels(&net).expect("a network").map(Ok).collect();
+        assert_eq!(
+            all,
+            (0..oracle.segments())
+                .map(|s| oracle.segment(s))
+                .collect::<Vec<_>>()
+        );
+        for p in 0..oracle.runs() + 2 {
+            for q in 0..oracle.runs() + 2 {
+                let level = judge_movement(&net, p, q);
+                assert_eq!(level, oracle.movement(p, q));
+                seen[usize::from(level.unwrap_or(0))] += 1;
+            }
+        }
+    }
+    assert!(seen.iter().all(|&n| n > 300), "{seen:?}");
+}
+
+/// Towns have the sizes they are asked for, and use what they should.
+#[test]
+fn shapes() {
+    for shape in Shape::ALL {
+        for segments in [0, 1, 2, 3, 4, 10, 100, 999, 1_000, 5_000] {
+            let town = gen::town(shape, 7, segments);
+            assert!(twin::is_network(&town.bytes()), "{shape:?} {segments}");
+            assert_eq!(Shape::from_name(shape.name()), Some(shape));
+            let made = town.segments.len();
+            assert!(made <= segments.min(1_000));
+            match shape {
+                Shape::Empty => assert_eq!(made, 0),
+                Shape::Single => assert_eq!((town.nodes, made), (1, segments.min(4))),
+                Shape::Tree => assert_eq!(made, segments.min(999)),
+                Shape::Star if segments % 4 == 0 && segments > 0 => {
+                    assert_eq!(made, segments.min(1_000));
+                    assert_eq!(2 * made, 8 * usize::from(town.nodes), "all eight legs used");
+                }
+                Shape::Grid | Shape::Ring | Shape::Wild => assert_eq!(made, segments.min(1_000)),
+                _ => assert!(
+                    segments < 10 || made * 10 >= segments.min(1_000) * 8,
+                    "{shape:?} {made}"
+                ),
+            }
+        }
+    }
+    assert_eq!(gen::town(Shape::Grid, 1, 1_000).text().len(), 61_015);
+    assert_ne!(gen::town(Shape::Grid, 1, 50), gen::town(Shape::Grid, 2, 50));
+}
+
+fn go(net: &[u8], from: usize, to: usize, tolerance: u8) -> Option<(Found, Vec<u16>)> {
+    let runs = 2 * (net.len() - 7) / 30;
+    let mut buffer = vec![0; runs];
+    let found = route(
+        net,
+        from,
+        to,
+        tolerance,
+        &mut vec![0; runs],
+        &mut vec![0; runs],
+        &mut buffer,
+        0,
+    )
+    .expect("no refusal")?;
+    buffer.truncate(found.count);
+    Some((found, buffer))
+}
+
+#[test]
+fn from_a_node_to_itself() {
+    let net = block_town().bytes();
+    for node in 0..3 {
+        for tolerance in 1..=4 {
+            let empty = Found {
+                count: 0,
+                length: 0,
+                level: 1,
+            };
+            assert_eq!(go(&net, node, node, tolerance), Some((empty, vec![])));
+            let (mut best, mut previous, mut buffer) = ([9; 6], [9; 6], [9; 8]);
+            let answer = least_stress(&net, node, node, &mut best, &mut previous, &mut buffer, 2);
+            assert_eq!(answer, Ok(Some((empty, 1))));
+            assert_eq!(buffer, [9; 8]);
+        }
+    }
+}
+
+/// The right-hand exit may be closed; then everything crosses.
+#[test]
+fn one_way_loops() {
+    let mut town = block_town();
+    town.segments[1].ways = 1;
+    let (found, list) = go(&town.bytes(), 0, 2, 1).unwrap();
+    assert_eq!((found.length, list), (1_500, vec![0, 2, 4]));
+    town.segments[1].ways = 2;
+    for tolerance in 1..=3 {
+        assert_eq!(go(&town.bytes(), 0, 2, tolerance), None);
+    }
+    let (found, list) = go(&town.bytes(), 0, 2, 4).unwrap();
+    assert_eq!(
+        (found, list),
+        (
+            Found {
+                count: 2,
+                length: 600,
+                level: 4
+            },
+            vec![0, 4]
+        )
+    );
+}
+
+/// The exit is met first by the longer way: no early stop there.
+#[test]
+fn goal_met_by_the_longer_way_first() {
+    let net = Town::new(3)
+        .with(Segment::path(end(0, 0), end(2, 0), 1_000))
+        .with(Segment::path(end(0, 1), end(1, 0), 10))
+        .with(Segment::path(end(1, 1), end(2, 1), 980))
+        .bytes();
+    let (found, list) = go(&net, 0, 2, 1).unwrap();
+    assert_eq!(
+        (found, list),
+        (
+            Found {
+                count: 2,
+                length: 990,
+                level: 1
+            },
+            vec![2, 4]
+        )
+    );
+}
+
+/// A best length per node would lose the way that may go on.
+#[test]
+fn label_for_each_run() {
+    let hard = Approach::crossing(2, 6, 40);
+    let net = Town::new(4)
+        .with(Segment::path(end(0, 0), end(1, 0), 10).at_b(hard)) // short, but stuck
+        .with(Segment::path(end(0, 1), end(2, 0), 100))
+        .with(Segment::path(end(2, 1), end(1, 4), 100))
+        .with(Segment::path(end(1, 2), end(3, 0), 50))
+        .bytes();
+    // Arriving by leg 0 the right-hand exit is 4, so leg 2 crosses.
+    let (found, list) = go(&net, 0, 3, 1).unwrap();
+    assert_eq!(
+        (found, list),
+        (
+            Found {
+                count: 3,
+                length: 250,
+                level: 1
+            },
+            vec![2, 4, 6]
+        )
+    );
+    let (found, list) = go(&net, 0, 3, 4).unwrap();
+    assert_eq!(
+        (found, list),
+        (
+            Found {
+                count: 2,
+                length: 60,
+                level: 4
+            },
+            vec![0, 6]
+        )
+    );
+}
+
+/// Greatest length: every run once, 52,800 feet each.
+#[test]
+fn longest_route() {
+    let mut town = Town::new(1_000);
+    for node in 0..999 {
+        town.segments
+            .push(Segment::path(end(node, 0), end(node + 1, 4), 52_800));
+    }
+    let (found, list) = go(&town.bytes(), 0, 999, 1).unwrap();
+    assert_eq!(
+        found,
+        Found {
+            count: 999,
+            length: 999 * 52_800,
+            level: 1
+        }
+    );
+    assert!(list
+        .iter()
+        .enumerate()
+        .all(|(i, &run)| usize::from(run) == 2 * i));
+}
