@@ -1,5 +1,6 @@
 // Standard input is a network text. Prints what Route says between its first nine nodes, and between 24 pairs spread over the network, at tolerances 0
-// to 5, and what Least stress says; for a refusal its number and whether anything lent was written. Which of several shortest routes is drawn is free,
+// to 5, and what Least stress says; for a refusal its number and whether anything lent was written. The
+// last five lines are refusals 11, 8 and, for a short scratch, 11. Which of several shortest routes is drawn is free,
 // so only lengths are printed.
 use format::ReadAnswer;
 use splicereel::least_stress::LeastAnswer;
@@ -73,7 +74,7 @@ fn none(buffer: &[u16]) {
     }
 }
 
-fn show_route(net: &[u8], from: usize, to: usize, tolerance: usize) {
+fn show_route(net: &[u8], from: usize, to: usize, tolerance: usize, place: usize) {
     let mut best = scratch();
     let mut previous = scratch();
     let mut buffer = runs();
@@ -88,7 +89,7 @@ fn show_route(net: &[u8], from: usize, to: usize, tolerance: usize) {
         &mut best,
         &mut previous,
         &mut buffer,
-        PLACE,
+        place,
     ) {
         RouteAnswer::NotANetwork => refused(8, &best, &previous, &buffer),
         RouteAnswer::NoSuchNode => refused(9, &best, &previous, &buffer),
@@ -104,7 +105,7 @@ fn show_route(net: &[u8], from: usize, to: usize, tolerance: usize) {
     io::write_all(OUT, b"\n");
 }
 
-fn show_least(net: &[u8], from: usize, to: usize) {
+fn show_least(net: &[u8], from: usize, to: usize, place: usize) {
     let mut best = scratch();
     let mut previous = scratch();
     let mut buffer = runs();
@@ -118,7 +119,7 @@ fn show_least(net: &[u8], from: usize, to: usize) {
         &mut best,
         &mut previous,
         &mut buffer,
-        PLACE,
+        place,
     ) {
         LeastAnswer::NotANetwork => refused(8, &best, &previous, &buffer),
         LeastAnswer::NoSuchNode => refused(9, &best, &previous, &buffer),
@@ -141,10 +142,38 @@ fn show_least(net: &[u8], from: usize, to: usize) {
 fn show(net: &[u8], from: usize, to: usize) {
     let mut tolerance: usize = 0;
     while tolerance < 6 {
-        show_route(net, from, to, tolerance);
+        show_route(net, from, to, tolerance, PLACE);
         tolerance += 1;
     }
-    show_least(net, from, to);
+    show_least(net, from, to, PLACE);
+}
+
+// A scratch of one number, too short where there is a segment.
+fn show_short(net: &[u8]) {
+    let mut best = [SCRATCH; 1];
+    let mut previous = scratch();
+    let mut buffer = runs();
+    match splicereel::route::route(net, 0, 0, 1, &mut best, &mut previous, &mut buffer, PLACE) {
+        RouteAnswer::NoRoom => refused(11, &best, &previous, &buffer),
+        RouteAnswer::Found {
+            count: _,
+            length,
+            level: _,
+        } => found(length),
+        _ => none(&buffer),
+    }
+    io::write_all(OUT, b"\n");
+}
+
+// A place beyond the buffer's end; and bytes that are no network, the head's first byte left out.
+fn show_refusals(net: &[u8]) {
+    show_route(net, 0, 0, 1, 2101);
+    show_least(net, 0, 0, 2101);
+    if 0 < net.len() {
+        show_route(&net[1..], 0, 0, 1, PLACE);
+        show_least(&net[1..], 0, 0, PLACE);
+    }
+    show_short(net);
 }
 
 fn show_all(net: &[u8]) {
@@ -158,6 +187,7 @@ fn show_all(net: &[u8]) {
         show(net, k * 37 % 1000, k * 91 % 1000);
         k += 1;
     }
+    show_refusals(net);
 }
 
 fn main() {

@@ -54,6 +54,9 @@ loop2-less c = search needs
 loop2-again : tie.Need-loop2-again Inv-loop μ-loop Inv-loop2 μ-loop2
 loop2-again c = search needs
 
+show-refusals-requires : tie.Need-show-refusals-requires Inv-loop μ-loop Inv-loop2 μ-loop2
+show-refusals-requires c κs = search needs
+
 returns : tie.Need-returns Inv-loop μ-loop Inv-loop2 μ-loop2
 returns c = search needs
 
@@ -77,4 +80,5 @@ show-all-spec =
     add-k
     loop2-less
     loop2-again
+    show-refusals-requires
     returns)
