@@ -47,7 +47,10 @@ array-share-prefix-net : tie.Need-array-share-prefix-net
 array-share-prefix-net c = kept-front (c .before .kept .given .1) (c .before .before .before .before .read .ensures) .1
 
 slice-aggregate-show-all : tie.Need-slice-aggregate-show-all
-slice-aggregate-show-all c = sym (length-take-le (c .before .before .kept .given .0 .0) (c .before .before .before .before .before .read .last .1 .0) (kept-front (c .before .before .kept .given .1) (c .before .before .before .before .before .read .ensures) .1))
+slice-aggregate-show-all c =
+    let after-read = c .before .before .before .before .before in
+    sym
+    (length-take-le (c .before .before .kept .given .0 .0) (after-read .read .last .1 .0) (kept-front (c .before .before .kept .given .1) (after-read .read .ensures) .1))
 
 show-all-requires : tie.Need-show-all-requires
 show-all-requires c κs = search needs

@@ -24,24 +24,41 @@ loop-holds c = tried-none _ _ _ _
 
 find-requires : tie.Need-find-requires Inv-loop μ-loop
 find-requires c κs =
-    let p = c .before .before .before .before .before .before .before .before .before .pre in
-    let T = c .before .before .before .before .loop .inv in
+    let after-loop = c .before .before .before .before in
+    let start = after-loop .before .before .before .before .before in
+    let p = start .pre in
+    let T = after-loop .loop .inv in
     (p .0, p .1, p .2, p .3, T .low, omega arith, omega (arith, T .same-best), omega (arith, T .same-previous), omega (arith, ap length (T .untouched)))
 
 enum-known-finding : tie.Need-enum-known-finding Inv-loop μ-loop
 enum-known-finding c = search needs
 
 same-length : tie.Need-same-length Inv-loop μ-loop
-same-length c = c .before .before .before .before .before .before .before .before .before .find .kept .1 .1 .1 .1 .1 .0 ∙ c .before .before .before .before .before .before .before .before .before .before .before .before .before .before .loop .inv .same-best
+same-length c =
+    let after-find = c .before .before .before .before .before .before .before .before .before in
+    let after-loop = after-find .before .before .before .before .before in
+    after-find .find .kept .1 .1 .1 .1 .1 .0 ∙ after-loop .loop .inv .same-best
 
 same-length-2 : tie.Need-same-length-2 Inv-loop μ-loop
-same-length-2 c = c .before .before .before .before .before .before .before .before .before .find .kept .1 .1 .1 .1 .1 .1 .0 ∙ c .before .before .before .before .before .before .before .before .before .before .before .before .before .before .loop .inv .same-previous
+same-length-2 c =
+    let after-find = c .before .before .before .before .before .before .before .before .before in
+    let after-loop = after-find .before .before .before .before .before in
+    after-find .find .kept .1 .1 .1 .1 .1 .1 .0 ∙ after-loop .loop .inv .same-previous
 
 same-length-3 : tie.Need-same-length-3 Inv-loop μ-loop
-same-length-3 c = c .before .before .before .before .before .before .before .before .before .find .kept .1 .1 .1 .1 .1 .1 .1 .0 ∙ ap length (c .before .before .before .before .before .before .before .before .before .before .before .before .before .before .loop .inv .untouched)
+same-length-3 c =
+    let after-find = c .before .before .before .before .before .before .before .before .before in
+    let after-loop = after-find .before .before .before .before .before in
+    after-find .find .kept .1 .1 .1 .1 .1 .1 .1 .0 ∙ ap length (after-loop .loop .inv .untouched)
 
 returns : tie.Need-returns Inv-loop μ-loop
-returns c = tried-found (c .before .before .before .before .before .before .before .before .before .before .before .before .before .before .loop .inv) (c .before .before .before .before .before .before .before .before .before .before .before .before .before .before .before .before .before .before .before .args .place) (c .before .before .before .before .before .before .before .before .before .before .before .before .before .loop-test .taken) (c .before .finding .given .1) (c .before .before .before .before .before .before .before .before .before .find .ensures)
+returns c =
+    let after-find = c .before .before .before .before .before .before .before .before .before in
+    let after-loop-test = after-find .before .before .before .before in
+    let after-loop = after-loop-test .before in
+    let start = after-loop .before .before .before .before .before in
+    tried-found (after-loop .loop .inv) (start .args .place) (after-loop-test .loop-test .taken) (c .before .finding .given .1)
+    (after-find .find .ensures)
 
 enum-told : tie.Need-enum-told Inv-loop μ-loop
 enum-told c = search needs
@@ -54,8 +71,12 @@ loop-less c = search needs
 
 loop-again : tie.Need-loop-again Inv-loop μ-loop
 loop-again c =
-    tried-more (c .before .before .before .before .before .before .before .before .before .before .before .before .before .loop .inv) (c .before .before .before .before .before .before .before .before .before .before .before .before .before .before .before .before .before .before .args .place) (c .before .before .before .before .before .before .before .before .before .before .before .before .loop-test .taken) (c .enum-told .given .1) (c .before .before .before .before .before .before .before .before .find .ensures)
-    (c .before .before .before .before .before .before .before .before .find .kept .1 .1 .1 .1 .1 .0) (c .before .before .before .before .before .before .before .before .find .kept .1 .1 .1 .1 .1 .1 .0)
+    let after-find = c .before .before .before .before .before .before .before .before in
+    let after-loop-test = after-find .before .before .before .before in
+    let after-loop = after-loop-test .before in
+    let start = after-loop .before .before .before .before .before in
+    tried-more (after-loop .loop .inv) (start .args .place) (after-loop-test .loop-test .taken) (c .enum-told .given .1) (after-find .find .ensures)
+    (after-find .find .kept .1 .1 .1 .1 .1 .0) (after-find .find .kept .1 .1 .1 .1 .1 .1 .0)
 
 same-length-4 : tie.Need-same-length-4 Inv-loop μ-loop
 same-length-4 c = c .before .loop .inv .same-best

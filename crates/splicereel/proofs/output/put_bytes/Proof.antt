@@ -23,7 +23,10 @@ shared-slice-read-put-byte : tie.Need-shared-slice-read-put-byte Inv-loop μ-loo
 shared-slice-read-put-byte c = omega arith
 
 put-byte-requires : tie.Need-put-byte-requires Inv-loop μ-loop
-put-byte-requires c κs = omega (arith, c .before .before .before .loop .inv .0 .end, length-take-le (c .before .before .before .loop .i) (c .before .before .before .before .before .before .args .bytes .now) (omega arith))
+put-byte-requires c κs =
+    let after-loop = c .before .before .before in
+    let start = after-loop .before .before .before in
+    omega (arith, after-loop .loop .inv .0 .end, length-take-le (after-loop .loop .i) (start .args .bytes .now) (omega arith))
 
 add-i : tie.Need-add-i Inv-loop μ-loop
 add-i c = omega arith
@@ -32,11 +35,10 @@ loop-less : tie.Need-loop-less Inv-loop μ-loop
 loop-less c = omega arith
 
 loop-again : tie.Need-loop-again Inv-loop μ-loop
-loop-again c = (
-  wrote-more (c .before .before .before .before .before .before .before .before .before .args .bytes .now) (c .before .before .before .before .before .before .loop .i) (c .before .before .before .before .before .before .loop .inv .0) (c .before .before .put-byte .ensures) (omega arith) (c .before .before .before .before .before .before .before .before .before .pre),
-  omega arith,
-  c .before .before .put-byte .kept .1 .1 .0 ∙ c .before .before .before .before .before .before .loop .inv .2,
-)
+loop-again c =
+    let after-loop = c .before .before .before .before .before .before in
+    let start = after-loop .before .before .before in
+    (wrote-more (start .args .bytes .now) (after-loop .loop .i) (after-loop .loop .inv .0) (c .before .before .put-byte .ensures) (omega arith) (start .pre), omega arith, c .before .before .put-byte .kept .1 .1 .0 ∙ after-loop .loop .inv .2)
 
 same-length : tie.Need-same-length Inv-loop μ-loop
 same-length c = c .before .loop .inv .2

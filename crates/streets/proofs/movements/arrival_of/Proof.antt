@@ -60,21 +60,28 @@ greater-requires c κs = search needs
 
 returns : tie.Need-returns
 returns c =
-    let r = c .before .before .before .before .before .before .before .before .before .before .before .before .args .run in
-    let at = c .before .before .before .before .before .before .before .before .before .frame-start .ensures in
-    let more = c .before .before .before .before .before .before .before .before .extra-of .result in
-    let is = c .before .before .before .before .before .before .before .before .extra-of .ensures .is in
-    let node = c .before .before .before .finish-of .ensures in
+    let after-finish-of = c .before .before .before in
+    let after-crossing-level = after-finish-of .before in
+    let after-crossing-at = after-crossing-level .before in
+    let after-turn-lane-level = after-crossing-at .before in
+    let after-turn-lane-at = after-turn-lane-level .before in
+    let after-extra-of = after-turn-lane-at .before in
+    let after-frame-start = after-extra-of .before in
+    let start = after-frame-start .before .before .before in
+    let r = start .args .run in
+    let at = after-frame-start .frame-start .ensures in
+    let more = after-extra-of .extra-of .result in
+    let is = after-extra-of .extra-of .ensures .is in
+    let node = after-finish-of .finish-of .ensures in
     let leg = c .before .before .arrival-leg .ensures in
-    let turn = turn-is r at more is (c .before .before .before .before .before .before .before .turn-lane-at .result) (c .before .before .before .before .before .before .turn-lane-level .result) (c .before .before .before .before .before .before .before .turn-lane-at .ensures) (c .before .before .before .before .before .before .turn-lane-level .ensures) in
-    let crossing = crossing-is r at more is (c .before .before .before .before .before .crossing-at .result) (c .before .before .before .before .crossing-level .result) (c .before .before .before .before .before .crossing-at .ensures) (c .before .before .before .before .crossing-level .ensures) in
-    record {
-      node = node;
-      leg = leg;
-      exit = exit-is (c .before .before .before .before .before .before .before .before .before .before .before .before .pre .0 .network) (c .before .before .before .before .before .before .before .before .before .before .before .before .pre .1) node leg (c .before .right-hand-exit .result) (c .before .right-hand-exit .ensures);
-      onto-exit = turn;
-      onto-other = c .greater .ensures ∙ ap₂ max turn crossing;
-    }
+    let turn =
+    turn-is r at more is (after-turn-lane-at .turn-lane-at .result) (after-turn-lane-level .turn-lane-level .result)
+    (after-turn-lane-at .turn-lane-at .ensures) (after-turn-lane-level .turn-lane-level .ensures) in
+    let crossing =
+    crossing-is r at more is (after-crossing-at .crossing-at .result) (after-crossing-level .crossing-level .result)
+    (after-crossing-at .crossing-at .ensures) (after-crossing-level .crossing-level .ensures) in
+    record
+    { node = node; leg = leg; exit = exit-is (start .pre .0 .network) (start .pre .1) node leg (c .before .right-hand-exit .result) (c .before .right-hand-exit .ensures); onto-exit = turn; onto-other = c .greater .ensures ∙ ap₂ max turn crossing }
 
 pub arrival-of-spec : {M : Type 1} → statement M
 arrival-of-spec =

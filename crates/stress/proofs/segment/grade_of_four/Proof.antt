@@ -27,26 +27,37 @@ returns c =
 
 returns-2 : tie.Need-returns-2
 returns-2 c =
-    let x = c .before .before .before .before .before .args in
+    let after-greater2 = c .before .before .before in
+    let after-greater = after-greater2 .before in
+    let start = after-greater .before in
+    let x = start .args in
     let level = c .before .before .greater3 .result in
     governs (x .one) (x .two) (x .three) (x .four) level _
-    (c .before .before .greater3 .ensures ∙ ap₂ max (c .before .before .before .before .greater .ensures) (c .before .before .before .greater2 .ensures))
+    (c .before .before .greater3 .ensures ∙ ap₂ max (after-greater .greater .ensures) (after-greater2 .greater2 .ensures))
     (rw (ne-eqb (x .one) level (c .before .if1 .left), eq-eqb (x .two) level (c .if2 .taken)))
 
 returns-3 : tie.Need-returns-3
 returns-3 c =
-    let x = c .before .before .before .before .before .before .args in
-    let level = c .before .before .before .greater3 .result in
+    let after-greater3 = c .before .before .before in
+    let after-greater2 = after-greater3 .before in
+    let after-greater = after-greater2 .before in
+    let start = after-greater .before in
+    let x = start .args in
+    let level = after-greater3 .greater3 .result in
     governs (x .one) (x .two) (x .three) (x .four) level _
-    (c .before .before .before .greater3 .ensures ∙ ap₂ max (c .before .before .before .before .before .greater .ensures) (c .before .before .before .before .greater2 .ensures))
+    (after-greater3 .greater3 .ensures ∙ ap₂ max (after-greater .greater .ensures) (after-greater2 .greater2 .ensures))
     (rw (ne-eqb (x .one) level (c .before .before .if1 .left), ne-eqb (x .two) level (c .before .if2 .left), eq-eqb (x .three) level (c .if3 .taken)))
 
 returns-4 : tie.Need-returns-4
 returns-4 c =
-    let x = c .before .before .before .before .before .before .args in
-    let level = c .before .before .before .greater3 .result in
+    let after-greater3 = c .before .before .before in
+    let after-greater2 = after-greater3 .before in
+    let after-greater = after-greater2 .before in
+    let start = after-greater .before in
+    let x = start .args in
+    let level = after-greater3 .greater3 .result in
     governs (x .one) (x .two) (x .three) (x .four) level _
-    (c .before .before .before .greater3 .ensures ∙ ap₂ max (c .before .before .before .before .before .greater .ensures) (c .before .before .before .before .greater2 .ensures))
+    (after-greater3 .greater3 .ensures ∙ ap₂ max (after-greater .greater .ensures) (after-greater2 .greater2 .ensures))
     (rw (ne-eqb (x .one) level (c .before .before .if1 .left), ne-eqb (x .two) level (c .before .if2 .left), ne-eqb (x .three) level (c .if3 .left)))
 
 pub grade-of-four-spec : {M : Type 1} → statement M
