@@ -48,7 +48,11 @@ pub fn answer(text: &[u8], from: usize, to: usize, limit: Limit, page: &mut [u8;
 {
     let mut net = room();
     match splicereel::read::read(text, &mut net) {
-        ReadAnswer::Refused { fault, line } => put_refused_line(number_of(fault) as usize, line, page),
+        ReadAnswer::Refused { fault, line } => put_refused_line(
+            number_of(fault) as usize,
+            line,
+            page,
+        ),
         ReadAnswer::Kept(count) => ask(&net[..count], from, to, limit, page),
     }
 }
@@ -70,18 +74,36 @@ fn ask_route(net: &[u8], from: usize, to: usize, tolerance: usize, page: &mut [u
     let mut best = scratch();
     let mut previous = scratch();
     let mut buffer = route_buffer();
-    match route(net, from, to, tolerance, &mut best, &mut previous, &mut buffer, 0) {
+    match route(
+        net,
+        from,
+        to,
+        tolerance,
+        &mut best,
+        &mut previous,
+        &mut buffer,
+        0,
+    ) {
         RouteAnswer::NotANetwork => put_refused(8, page),
         RouteAnswer::NoSuchNode => put_refused(9, page),
         RouteAnswer::NoSuchTolerance => put_refused(10, page),
         RouteAnswer::NoRoom => put_refused(11, page),
         RouteAnswer::Nothing => put_none(from, to, tolerance, page),
-        RouteAnswer::Found { count, length, level } => {
-            let mut at = put_found(from, to, tolerance, page);
-            at = put(b"\n", at, page);
-            at = put_summary(count, length, level, at, page);
-            put_runs(net, from, to, &buffer[..count], at, page)
-        }
+        RouteAnswer::Found {
+            count,
+            length,
+            level,
+        } => put_found(
+            net,
+            from,
+            to,
+            tolerance,
+            b"\n",
+            &buffer[..count],
+            length,
+            level,
+            page,
+        ),
     }
 }
 
@@ -97,21 +119,46 @@ fn ask_least(net: &[u8], from: usize, to: usize, page: &mut [u8; PAGE]) -> usize
         LeastAnswer::NoSuchNode => put_refused(9, page),
         LeastAnswer::NoRoom => put_refused(11, page),
         LeastAnswer::Nothing => put_unlinked(from, to, page),
-        LeastAnswer::Found { count, length, level, tolerance } => {
-            let mut at = put_found(from, to, tolerance, page);
-            at = put(b", the least that has a route\n", at, page);
-            at = put_summary(count, length, level, at, page);
-            put_runs(net, from, to, &buffer[..count], at, page)
-        }
+        LeastAnswer::Found {
+            count,
+            length,
+            level,
+            tolerance,
+        } => put_found(
+            net,
+            from,
+            to,
+            tolerance,
+            b", the least that has a route\n",
+            &buffer[..count],
+            length,
+            level,
+            page,
+        ),
     }
 }
 
-fn put_found(from: usize, to: usize, tolerance: usize, page: &mut [u8; PAGE]) -> usize
-    ensures { λ r. ⌜ r ≤ 105 ⌝ }
+// A route that was found. The note follows the tolerance.
+fn put_found(
+    net: &[u8],
+    from: usize,
+    to: usize,
+    tolerance: usize,
+    note: &[u8],
+    runs: &[u16],
+    feet: u32,
+    level: u8,
+    page: &mut [u8; PAGE],
+) -> usize
+    requires { ⌜ (isNetwork (now net) ≡ true) × (length (now note) ≤ 30) × (length (now runs) ≤ 2000) × Route (bicycle (now net)) from to (now runs) ⌝ }
+    ensures { λ r. ⌜ r ≤ pageSize ⌝ }
 {
     let mut at = put_ends(from, to, 0, page);
     at = put(b": found\n\nTolerance  ", at, page);
-    put_number(tolerance, at, page)
+    at = put_number(tolerance, at, page);
+    at = put(note, at, page);
+    at = put_summary(runs.len(), feet, level, at, page);
+    put_runs(net, from, to, runs, at, page)
 }
 
 fn put_none(from: usize, to: usize, tolerance: usize, page: &mut [u8; PAGE]) -> usize
@@ -120,12 +167,20 @@ fn put_none(from: usize, to: usize, tolerance: usize, page: &mut [u8; PAGE]) -> 
     let mut at = put_ends(from, to, 0, page);
     at = put(b": none\n\nTolerance  ", at, page);
     at = put_number(tolerance, at, page);
-    put(b"\nNo way from the one to the other stays within it.\n", at, page)
+    put(
+        b"\nNo way from the one to the other stays within it.\n",
+        at,
+        page,
+    )
 }
 
 fn put_unlinked(from: usize, to: usize, page: &mut [u8; PAGE]) -> usize
     ensures { λ r. ⌜ r ≤ pageSize ⌝ }
 {
     let at = put_ends(from, to, 0, page);
-    put(b": none\n\nNo way leads from the one to the other, at any tolerance.\n", at, page)
+    put(
+        b": none\n\nNo way leads from the one to the other, at any tolerance.\n",
+        at,
+        page,
+    )
 }

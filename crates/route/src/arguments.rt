@@ -1,5 +1,8 @@
 // What the arguments ask.
-const DIGITS: usize = 9;
+ghost use mathlib.Core.Path.{_≡_};
+ghost use mathlib.Core.Bool.{true};
+ghost use Prim.Native.Nat.{_<_};
+ghost use Rattle.route.specs.Numbers.{goesOn, withDigit, numberIn};
 
 // Up to which tolerance: a number, which Route judges, or the least that has a route.
 pub enum Limit {
@@ -23,47 +26,53 @@ pub enum Request {
     },
 }
 
-// A word that is a number of 1 to 9 digits, or is none.
-enum Number {
+// A word that is a number below 1,000,000,000, or is none.
+pub enum Number {
     Is(usize),
     No,
 }
 
-fn is_digit(byte: u8) -> bool {
-    (b'0' <= byte) & (byte <= b'9')
+// Another digit may follow the value.
+fn goes_on(value: usize, byte: u8) -> bool
+    ensures { λ r. ⌜ r ≡ goesOn value byte ⌝ }
+{
+    (48 <= byte) & (byte <= 57) & (value < 100000000)
 }
 
-fn number(word: &[u8]) -> Number {
-    if (word.len() == 0) | (DIGITS < word.len()) {
+fn with_digit(value: usize, byte: u8) -> usize
+    requires { ⌜ goesOn value byte ≡ true ⌝ }
+    ensures { λ r. ⌜ r ≡ withDigit value byte ⌝ }
+    ensures { λ r. ⌜ r < 1000000000 ⌝ }
+{
+    value * 10 + (byte - 48) as usize
+}
+
+fn number_of(word: &[u8]) -> Number
+    ensures { λ r. ⌜ r ≡ numberIn (now (word .entry)) ⌝ }
+{
+    if word.len() == 0 {
         return Number::No;
     }
     let mut value: usize = 0;
     let mut i: usize = 0;
     while i < word.len() {
-        if !is_digit(word[i]) {
+        if !goes_on(value, word[i]) {
             return Number::No;
         }
-        value = value * 10 + (word[i] - b'0') as usize;
+        value = with_digit(value, word[i]);
         i += 1;
     }
     Number::Is(value)
 }
 
-// Argument i as a number. One that is longer than any number here comes back empty, which is none.
+// Argument i as a number. One too long for the word comes back empty, which is none.
 fn argument(i: usize) -> Number {
     let mut word = [0u8; 16];
     let count = os::arg(i, &mut word);
-    number(&word[..count])
+    number_of(&word[..count])
 }
 
-fn is_least(word: &[u8]) -> bool {
-    if word.len() != 5 {
-        return false;
-    }
-    (word[0] == b'l') & (word[1] == b'e') & (word[2] == b'a') & (word[3] == b's') & (word[4] == b't')
-}
-
-pub fn request() -> Request {
+pub fn read_request() -> Request {
     if os::arg_count() != 4 {
         return Request::Wrong(Mistake::Count);
     }
@@ -75,14 +84,14 @@ pub fn request() -> Request {
     };
     let mut word = [0u8; 16];
     let count = os::arg(3, &mut word);
-    if is_least(&word[..count]) {
+    if check::same(&word[..count], b"least") {
         return Request::Asked {
             from,
             to,
             limit: Limit::Least,
         };
     }
-    let Number::Is(tolerance) = number(&word[..count]) else {
+    let Number::Is(tolerance) = number_of(&word[..count]) else {
         return Request::Wrong(Mistake::Tolerance);
     };
     Request::Asked {
@@ -100,9 +109,11 @@ fn say(bytes: &[u8]) {
 pub fn explain(mistake: Mistake) {
     match mistake {
         Mistake::Count => say(b"route: three arguments are needed"),
-        Mistake::From => say(b"route: FROM is not a number of at most 9 digits"),
-        Mistake::To => say(b"route: TO is not a number of at most 9 digits"),
-        Mistake::Tolerance => say(b"route: TOLERANCE is neither a number of at most 9 digits nor least"),
+        Mistake::From => say(b"route: FROM is not a number below 1000000000"),
+        Mistake::To => say(b"route: TO is not a number below 1000000000"),
+        Mistake::Tolerance => say(
+            b"route: TOLERANCE is neither a number below 1000000000 nor least",
+        ),
     }
     say(b"; call it as: route FROM TO TOLERANCE < text, or: route FROM TO least < text\n");
 }

@@ -9,14 +9,14 @@ mod words;
 use arguments::Request;
 
 fn main() {
-    match arguments::request() {
+    match arguments::read_request() {
         Request::Wrong(mistake) => arguments::explain(mistake),
         Request::Asked { from, to, limit } => {
             let mut text = io::large_buffer();
             let count = io::read_full(libc::STDIN_FILENO, &mut text);
             let mut page = text::page();
             let end = answer::answer(&text[..count], from, to, limit, &mut page);
-            io::write_all(libc::STDOUT_FILENO, &page[..end]);
+            text::write(&page, end);
         }
     }
 }

@@ -70,6 +70,18 @@ fn put_direction(run: usize, place: usize, page: &mut [u8; PAGE]) -> usize
     put(b"  B to A", place, page)
 }
 
+// Where a run goes: segment, direction, nodes and feet.
+fn put_way(net: &[u8], run: usize, place: usize, page: &mut [u8; PAGE]) -> usize
+    requires { ⌜ RunOf (now net) run × (place + 88 ≤ pageSize) ⌝ }
+    ensures { λ r. ⌜ r ≤ place + 88 ⌝ }
+{
+    let mut at = put_right(run / 2, 9, place, page);
+    at = put_direction(run, at, page);
+    at = put_right(start_of(net, run), 9, at, page);
+    at = put_right(finish_of(net, run), 6, at, page);
+    put_right(feet_of(net, run), 8, at, page)
+}
+
 // A row for a run, with its number in the route.
 fn put_run(net: &[u8], number: usize, run: usize, place: usize, page: &mut [u8; PAGE]) -> usize
     requires { ⌜ RunOf (now net) run × (place + 148 ≤ pageSize) ⌝ }
@@ -77,11 +89,7 @@ fn put_run(net: &[u8], number: usize, run: usize, place: usize, page: &mut [u8; 
 {
     let grade = segment_grade(net, run / 2);
     let mut at = put_right(number, 4, place, page);
-    at = put_right(run / 2, 9, at, page);
-    at = put_direction(run, at, page);
-    at = put_right(start_of(net, run), 8, at, page);
-    at = put_right(finish_of(net, run), 6, at, page);
-    at = put_right(feet_of(net, run), 8, at, page);
+    at = put_way(net, run, at, page);
     at = put_right(grade.level as usize, 7, at, page);
     at = put(b"  ", at, page);
     at = put_measure(grade.measure, at, page);
@@ -95,7 +103,9 @@ fn corner_level(net: &[u8], first: usize, second: usize) -> u8
 {
     match judge_movement(net, first, second) {
         MovementAnswer::Level(level) => level,
-        _ => 0,
+        MovementAnswer::NotANetwork => 0,
+        MovementAnswer::NoOpenRun => 0,
+        MovementAnswer::NoMovement => 0,
     }
 }
 
@@ -105,13 +115,21 @@ fn put_corner(net: &[u8], first: usize, second: usize, place: usize, page: &mut 
     ensures { λ r. ⌜ r ≤ place + 70 ⌝ }
 {
     let mut at = put(b"               corner at node", place, page);
-    at = put_right(finish_of(net, first), 6, at, page);
+    at = put_right(finish_of(net, first), 7, at, page);
     at = put_right(corner_level(net, first, second) as usize, 15, at, page);
     put(b"\n", at, page)
 }
 
 // The rows for run i of a route: the corner before it, where there is one, and the run.
-fn put_step(net: &[u8], from: usize, to: usize, runs: &[u16], i: usize, place: usize, page: &mut [u8; PAGE]) -> usize
+fn put_step(
+    net: &[u8],
+    from: usize,
+    to: usize,
+    runs: &[u16],
+    i: usize,
+    place: usize,
+    page: &mut [u8; PAGE],
+) -> usize
     requires { ⌜ (isNetwork (now net) ≡ true) × Route (bicycle (now net)) from to (now runs) × (i < length (now runs)) × (place + 218 ≤ pageSize) ⌝ }
     ensures { λ r. ⌜ r ≤ place + 218 ⌝ }
 {
@@ -124,14 +142,29 @@ fn put_step(net: &[u8], from: usize, to: usize, runs: &[u16], i: usize, place: u
 }
 
 // The table of a route's runs and of the corners between them.
-pub fn put_runs(net: &[u8], from: usize, to: usize, runs: &[u16], place: usize, page: &mut [u8; PAGE]) -> usize
+pub fn put_runs(
+    net: &[u8],
+    from: usize,
+    to: usize,
+    runs: &[u16],
+    place: usize,
+    page: &mut [u8; PAGE],
+) -> usize
     requires { ⌜ (isNetwork (now net) ≡ true) × Route (bicycle (now net)) from to (now runs) × (place + (70 + 218 * length (now runs)) ≤ pageSize) ⌝ }
     ensures { λ r. ⌜ r ≤ place + (70 + 218 * length (now (runs .entry))) ⌝ }
 {
     if runs.len() == 0 {
-        return put(b"\nThe two are one node: there is nothing to ride.\n", place, page);
+        return put(
+            b"\nThe two are one node: there is nothing to ride.\n",
+            place,
+            page,
+        );
     }
-    let mut at = put(b"\n Run  Segment  Direction  From    To    Feet  Level  Decided by\n", place, page);
+    let mut at = put(
+        b"\n Run  Segment  Direction  From    To    Feet  Level  Decided by\n",
+        place,
+        page,
+    );
     let mut i: usize = 0;
     while i < runs.len() {
         at = put_step(net, from, to, runs, i, at, page);
