@@ -2,8 +2,8 @@
 -- Assumes nothing.
 use Prim.Native.Nat.{ℕ, _+_, _-_, _≤_}
 use native.Mathlib.Omega.{arith}
-use mathlib.Core.Path.{_≡_, refl, sym, _∙_, ap, ap₂}
-use mathlib.Core.List.{List, [], _++_, append-nil}
+use mathlib.Core.Path.{_≡_}
+use mathlib.Core.List.{List, _++_, append-nil}
 use lib.ListN.{length, take, drop, length-drop, drop-of-length-le}
 use lib.Seq.{take-all, take-length, drop-drop}
 use Rattle.splicereel.specs.Output.{write}

@@ -1,9 +1,9 @@
 -- What is left of a word decides its number: another digit is one step of the definition, and any other byte ends it.
 -- Assumes nothing.
-use Prim.Native.Nat.{ℕ, zero, suc, _+_, _*_, _-_, _≤_, _<_}
+use Prim.Native.Nat.{ℕ, _+_, _-_, _≤_, _<_}
 use native.Mathlib.Numerals.{add-one}
 use native.Mathlib.Omega.{arith}
-use mathlib.Core.Path.{_≡_, refl, sym, _∙_}
+use mathlib.Core.Path.{_≡_, refl}
 use mathlib.Core.Bool.{true, false}
 use lib.Dec.{leb, ltb}
 use borrow.Author.Tests.{leb-true, ltb-true}
@@ -11,9 +11,8 @@ use mathlib.Core.List.{List, [], _∷_}
 use lib.ListN.{length, getD, drop, drop-of-length-le}
 use lib.Seq.{drop-cons}
 use Rattle.routes.proofs.Facts.{and-true}
-use Rattle.route.specs.declared.arguments.Number.{Number}
 use Rattle.route.specs.declared.arguments.Number.the-variants.{Is, No}
-use Rattle.route.specs.Numbers.{isDigit, goesOn, withDigit, pickNumber, numberFrom, numberIn}
+use Rattle.route.specs.Numbers.{isDigit, goesOn, withDigit, numberFrom, numberIn}
 
 -- a word that is not empty
 pub some-left : (word : List ℕ) → 0 < length word → numberFrom 0 word ≡ numberIn word

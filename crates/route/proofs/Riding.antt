@@ -2,8 +2,6 @@
 -- and a route that is found stands at the front of its buffer.
 -- Assumes nothing.
 use Prim.Native.Nat.{ℕ, zero, suc, _+_, _-_, _≤_, _<_}
-use native.Mathlib.Nat.{zero-add}
-use native.Mathlib.Numerals.{add-one}
 use native.Mathlib.Omega.{arith}
 use mathlib.Core.Path.{_≡_, refl, sym, _∙_, ap, subst}
 use mathlib.Core.Bool.{true, _&&_}
@@ -13,12 +11,12 @@ use lib.Seq.{take-at}
 use Rattle.format.specs.Network.{isNetwork}
 use Rattle.routes.specs.Streets.{Streets}
 use Rattle.routes.specs.Routes.{Open, Movement, After, Route}
-use Rattle.streets.specs.Runs.{RunOf, isOpen}
+use Rattle.streets.specs.Runs.{isOpen}
 use Rattle.streets.specs.Bicycle.{bicycle, movementLevel}
 use Rattle.search.specs.Trace.{Written}
 use Rattle.splicereel.specs.declared.judge.MovementAnswer.{MovementAnswer}
-use Rattle.splicereel.specs.declared.judge.MovementAnswer.the-variants.{NotANetwork, NoOpenRun, NoMovement, Level}
-use Rattle.splicereel.specs.Judge.{MovementTold, refused, levelled, toldMovement, JudgesMovement}
+use Rattle.splicereel.specs.declared.judge.MovementAnswer.the-variants.{Level}
+use Rattle.splicereel.specs.Judge.{refused, levelled, toldMovement, JudgesMovement}
 use Rattle.splicereel.proofs.Judging.{movement-levelled}
 use Rattle.splicereel.specs.declared.route.RouteAnswer.{RouteAnswer}
 use Rattle.splicereel.specs.declared.route.RouteAnswer.the-variants.{Found}
