@@ -1,0 +1,4 @@
+pub mod Copying
+pub mod Digits
+pub mod Numbers
+pub mod Riding

@@ -1,0 +1,41 @@
+-- `route::text::put_right` meets its contract: blanks and digits together are at most 20.
+-- Assumes nothing.
+use native.Mathlib.Omega.{arith}
+use lib.Seq.{length-take-le}
+use borrow.Author.Needs.{needs}
+use Rattle.route.proofs.Digits.{at-most-20}
+use Rattle.route.proofs.text.put_right.Statement.{statement}
+use Rattle.route.proofs.text.put_right.Tie as tie
+
+decimal-requires : tie.Need-decimal-requires
+decimal-requires c κs = search needs
+
+array-share-prefix-digits : tie.Need-array-share-prefix-digits
+array-share-prefix-digits c = search needs
+
+slice-aggregate-put : tie.Need-slice-aggregate-put
+slice-aggregate-put c = search needs
+
+short-of-requires : tie.Need-short-of-requires
+short-of-requires c κs = search needs
+
+add-put : tie.Need-add-put
+add-put c = search needs
+
+put-requires : tie.Need-put-requires
+put-requires c κs = omega (arith, length-take-le (c .before .before .before .decimal .result) (c .before .before .before .decimal .last .1 .0) (c .before .before .before .decimal .ensures .0 .0), at-most-20 (c .before .before .before .before .before .args .n) (c .before .before .before .decimal .result) (search needs) (c .before .before .before .decimal .ensures .1 .0))
+
+returns : tie.Need-returns
+returns c = omega (arith, c .put .ensures .end, length-take-le (c .before .before .before .before .decimal .result) (c .before .before .before .before .decimal .last .1 .0) (c .before .before .before .before .decimal .ensures .0 .0), at-most-20 (c .before .before .before .before .before .before .args .n) (c .before .before .before .before .decimal .result) (search needs) (c .before .before .before .before .decimal .ensures .1 .0))
+
+pub put-right-spec : {M : Type 1} → statement M
+put-right-spec =
+    tie.close
+    (tie.spec
+    decimal-requires
+    array-share-prefix-digits
+    slice-aggregate-put
+    short-of-requires
+    add-put
+    put-requires
+    returns)

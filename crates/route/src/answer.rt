@@ -1,0 +1,186 @@
+// The answer to a request, whole on a page.
+ghost use mathlib.Core.Path.{_≡_};
+ghost use mathlib.Core.Bool.{true};
+ghost use Prim.Native.Nat.{_≤_};
+ghost use lib.ListN.{length};
+ghost use Rattle.format.specs.Network.{isNetwork};
+ghost use Rattle.routes.specs.Routes.{Route};
+ghost use Rattle.streets.specs.Bicycle.{bicycle};
+ghost use Rattle.route.specs.Page.{pageSize};
+use crate::arguments::Limit;
+use crate::show::put_ends;
+use crate::show::put_refused;
+use crate::show::put_refused_line;
+use crate::show::put_runs;
+use crate::show::put_summary;
+use crate::text::PAGE;
+use crate::text::put;
+use crate::text::put_number;
+use format::ReadAnswer;
+use splicereel::least_stress::LeastAnswer;
+use splicereel::least_stress::least_stress;
+use splicereel::read::number_of;
+use splicereel::route::RouteAnswer;
+use splicereel::route::route;
+
+// Bytes in which every network of the format fits.
+fn room() -> [u8; 30007]
+    ensures { λ r. ⌜ length r ≡ 30007 ⌝ }
+{
+    [0u8; 30007]
+}
+
+// A number for each run of the largest network, as scratch and as the route's buffer.
+fn scratch() -> [u32; 2000]
+    ensures { λ r. ⌜ length r ≡ 2000 ⌝ }
+{
+    [0u32; 2000]
+}
+
+fn route_buffer() -> [u16; 2000]
+    ensures { λ r. ⌜ length r ≡ 2000 ⌝ }
+{
+    [0u16; 2000]
+}
+
+pub fn answer(text: &[u8], from: usize, to: usize, limit: Limit, page: &mut [u8; PAGE]) -> usize
+    ensures { λ r. ⌜ r ≤ pageSize ⌝ }
+{
+    let mut net = room();
+    match splicereel::read::read(text, &mut net) {
+        ReadAnswer::Refused { fault, line } => put_refused_line(
+            number_of(fault) as usize,
+            line,
+            page,
+        ),
+        ReadAnswer::Kept(count) => ask(&net[..count], from, to, limit, page),
+    }
+}
+
+fn ask(net: &[u8], from: usize, to: usize, limit: Limit, page: &mut [u8; PAGE]) -> usize
+    requires { ⌜ isNetwork (now net) ≡ true ⌝ }
+    ensures { λ r. ⌜ r ≤ pageSize ⌝ }
+{
+    match limit {
+        Limit::At(tolerance) => ask_route(net, from, to, tolerance, page),
+        Limit::Least => ask_least(net, from, to, page),
+    }
+}
+
+fn ask_route(net: &[u8], from: usize, to: usize, tolerance: usize, page: &mut [u8; PAGE]) -> usize
+    requires { ⌜ isNetwork (now net) ≡ true ⌝ }
+    ensures { λ r. ⌜ r ≤ pageSize ⌝ }
+{
+    let mut best = scratch();
+    let mut previous = scratch();
+    let mut buffer = route_buffer();
+    match route(
+        net,
+        from,
+        to,
+        tolerance,
+        &mut best,
+        &mut previous,
+        &mut buffer,
+        0,
+    ) {
+        RouteAnswer::NotANetwork => put_refused(8, page),
+        RouteAnswer::NoSuchNode => put_refused(9, page),
+        RouteAnswer::NoSuchTolerance => put_refused(10, page),
+        RouteAnswer::NoRoom => put_refused(11, page),
+        RouteAnswer::Nothing => put_none(from, to, tolerance, page),
+        RouteAnswer::Found {
+            count,
+            length,
+            level,
+        } => put_found(
+            net,
+            from,
+            to,
+            tolerance,
+            b"\n",
+            &buffer[..count],
+            length,
+            level,
+            page,
+        ),
+    }
+}
+
+fn ask_least(net: &[u8], from: usize, to: usize, page: &mut [u8; PAGE]) -> usize
+    requires { ⌜ isNetwork (now net) ≡ true ⌝ }
+    ensures { λ r. ⌜ r ≤ pageSize ⌝ }
+{
+    let mut best = scratch();
+    let mut previous = scratch();
+    let mut buffer = route_buffer();
+    match least_stress(net, from, to, &mut best, &mut previous, &mut buffer, 0) {
+        LeastAnswer::NotANetwork => put_refused(8, page),
+        LeastAnswer::NoSuchNode => put_refused(9, page),
+        LeastAnswer::NoRoom => put_refused(11, page),
+        LeastAnswer::Nothing => put_unlinked(from, to, page),
+        LeastAnswer::Found {
+            count,
+            length,
+            level,
+            tolerance,
+        } => put_found(
+            net,
+            from,
+            to,
+            tolerance,
+            b", the least that has a route\n",
+            &buffer[..count],
+            length,
+            level,
+            page,
+        ),
+    }
+}
+
+// A route that was found. The note follows the tolerance.
+fn put_found(
+    net: &[u8],
+    from: usize,
+    to: usize,
+    tolerance: usize,
+    note: &[u8],
+    runs: &[u16],
+    feet: u32,
+    level: u8,
+    page: &mut [u8; PAGE],
+) -> usize
+    requires { ⌜ (isNetwork (now net) ≡ true) × (length (now note) ≤ 30) × (length (now runs) ≤ 2000) × Route (bicycle (now net)) from to (now runs) ⌝ }
+    ensures { λ r. ⌜ r ≤ pageSize ⌝ }
+{
+    let mut at = put_ends(from, to, 0, page);
+    at = put(b": found\n\nTolerance  ", at, page);
+    at = put_number(tolerance, at, page);
+    at = put(note, at, page);
+    at = put_summary(runs.len(), feet, level, at, page);
+    put_runs(net, from, to, runs, at, page)
+}
+
+fn put_none(from: usize, to: usize, tolerance: usize, page: &mut [u8; PAGE]) -> usize
+    ensures { λ r. ⌜ r ≤ pageSize ⌝ }
+{
+    let mut at = put_ends(from, to, 0, page);
+    at = put(b": none\n\nTolerance  ", at, page);
+    at = put_number(tolerance, at, page);
+    put(
+        b"\nNo way from the one to the other stays within it.\n",
+        at,
+        page,
+    )
+}
+
+fn put_unlinked(from: usize, to: usize, page: &mut [u8; PAGE]) -> usize
+    ensures { λ r. ⌜ r ≤ pageSize ⌝ }
+{
+    let at = put_ends(from, to, 0, page);
+    put(
+        b": none\n\nNo way leads from the one to the other, at any tolerance.\n",
+        at,
+        page,
+    )
+}
