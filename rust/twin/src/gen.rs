@@ -489,6 +489,25 @@ pub fn town(shape: Shape, seed: u64, segments: usize) -> Town {
     }
 }
 
+/// A grid as towns have it: quiet blocks, every third street or so a busier
+/// one, some of them one-way.
+pub fn mixed_grid(seed: u64, segments: usize) -> Town {
+    let mut rng = Rng::new(seed);
+    let fields = |style| Fields {
+        style,
+        one_way: 10,
+        lengths: Some(&BLOCKS),
+    };
+    let mut town = grid(&mut rng, fields(Style::Gentle), segments.min(1_000));
+    let busier = fields(Style::Mixed);
+    for street in &mut town.segments {
+        if rng.chance(30) {
+            *street = busier.street(&mut rng, street.a, street.b);
+        }
+    }
+    town
+}
+
 /// A grid: north leg 0, east 2, south 4, west 6, diagonals between.
 fn grid(rng: &mut Rng, fields: Fields, wanted: usize) -> Town {
     let streets = |wide: usize, high: usize| wide * (high - 1) + high * (wide - 1);

@@ -1,0 +1,1 @@
+//! The archive and the twin side by side.
