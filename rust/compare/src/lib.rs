@@ -12,6 +12,7 @@
 
 #![forbid(unsafe_code)]
 #![deny(missing_docs)]
+#![allow(clippy::manual_is_multiple_of)] // a run's direction is its parity
 
 mod agree;
 pub mod calls;

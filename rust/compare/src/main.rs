@@ -5,8 +5,7 @@ use compare::calls::Archive;
 use compare::{Comparer, Mismatch};
 use std::process::ExitCode;
 use std::time::{Duration, Instant};
-
-const USAGE: &str = "usage: compare [MINUTES [SEED]], or compare replay SEED ROUND";
+use twin::program::{self, number};
 
 /// What a command line asks for.
 enum Task {
@@ -15,7 +14,6 @@ enum Task {
 }
 
 fn task(words: &[String]) -> Option<Task> {
-    let number = |word: &String| word.parse::<u64>().ok();
     match words {
         [] => Some(Task::Run {
             minutes: 1,
@@ -90,13 +88,9 @@ fn replay(seed: u64, round: u64) -> ExitCode {
 }
 
 fn main() -> ExitCode {
-    let words: Vec<String> = std::env::args().skip(1).collect();
-    match task(&words) {
+    match task(&program::words()) {
         Some(Task::Run { minutes, seed }) => run(minutes, seed),
         Some(Task::Replay { seed, round }) => replay(seed, round),
-        None => {
-            eprintln!("{USAGE}");
-            ExitCode::from(2)
-        }
+        None => program::usage("compare [MINUTES [SEED]], or compare replay SEED ROUND"),
     }
 }

@@ -39,6 +39,7 @@ mod search;
 pub mod gen;
 pub mod lend;
 pub mod oracle;
+pub mod program;
 pub mod town;
 
 pub use network::{is_network, judge_movement, judge_segment, segment_levels};

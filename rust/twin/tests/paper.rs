@@ -1,9 +1,11 @@
 //! Every example that the paper prints, through the calls and the oracle.
 
+use twin::gen::Rng;
+use twin::lend::{Lengths, Lent};
 use twin::oracle::{self, Net};
 use twin::town::{block_town, end, Approach, Segment, Town};
 use twin::town::{CENTRELINE, MEDIAN, RESIDENTIAL};
-use twin::{judge_movement, judge_segment, least_stress, read, route, Found};
+use twin::{judge_movement, judge_segment, read, Found};
 
 /// Level and measure of one street, checked with the oracle.
 fn street(form: u8, lanes: u8, speed: u8, reach: u8, marks: u8) -> (u8, u8) {
@@ -178,17 +180,23 @@ fn both_on_one_approach() {
     assert_eq!(both(3, 200, 15, 3, 4, 25), (4, 4));
 }
 
-struct Lent {
-    best: Vec<u32>,
-    previous: Vec<u32>,
-    buffer: Vec<u16>,
+/// What Block town's three segments need, from a place on, and five numbers
+/// more.
+fn lent(place: usize) -> Lent {
+    let lengths = Lengths {
+        buffer: 11,
+        place,
+        ..Lengths::exact(6)
+    };
+    Lent::garbage(&mut Rng::new(77), lengths)
 }
 
-fn lent(segments: usize) -> Lent {
-    Lent {
-        best: vec![77; 2 * segments],
-        previous: vec![78; 2 * segments],
-        buffer: vec![60_000; 2 * segments + 5],
+/// A route's count, length and level.
+fn found(count: usize, length: u32, level: u8) -> Found {
+    Found {
+        count,
+        length,
+        level,
     }
 }
 
@@ -196,82 +204,27 @@ fn lent(segments: usize) -> Lent {
 fn block_town_at_each_tolerance() {
     let net = block_town().bytes();
     for tolerance in 1..=3 {
-        let mut l = lent(3);
-        let found = route(
-            &net,
-            0,
-            2,
-            tolerance,
-            &mut l.best,
-            &mut l.previous,
-            &mut l.buffer,
-            2,
-        )
-        .unwrap();
-        assert_eq!(
-            found,
-            Some(Found {
-                count: 3,
-                length: 1_500,
-                level: 1
-            })
-        );
-        assert_eq!(
-            l.buffer,
-            [60_000, 60_000, 0, 2, 4, 60_000, 60_000, 60_000, 60_000, 60_000, 60_000]
-        );
+        let mut lent = lent(2);
+        let answer = lent.route(&net, 0, 2, tolerance);
+        assert_eq!(answer, Ok(Some(found(3, 1_500, 1))));
+        assert_eq!(lent.runs(3), [0, 2, 4]);
+        assert!(lent.written(3));
     }
-    let mut l = lent(3);
-    let found = route(
-        &net,
-        0,
-        2,
-        4,
-        &mut l.best,
-        &mut l.previous,
-        &mut l.buffer,
-        0,
-    )
-    .unwrap();
-    assert_eq!(
-        found,
-        Some(Found {
-            count: 2,
-            length: 600,
-            level: 4
-        })
-    );
-    assert_eq!(l.buffer[..3], [0, 4, 60_000]);
+    let mut across = lent(0);
+    let answer = across.route(&net, 0, 2, 4);
+    assert_eq!(answer, Ok(Some(found(2, 600, 4))));
+    assert_eq!(across.runs(2), [0, 4]);
+    assert!(across.written(2));
 
-    let mut l = lent(3);
-    let found = least_stress(&net, 0, 2, &mut l.best, &mut l.previous, &mut l.buffer, 5).unwrap();
-    assert_eq!(
-        found,
-        Some((
-            Found {
-                count: 3,
-                length: 1_500,
-                level: 1
-            },
-            1
-        ))
-    );
-    assert_eq!(l.buffer[4..9], [60_000, 0, 2, 4, 60_000]);
+    let mut least = lent(5);
+    let answer = least.least_stress(&net, 0, 2);
+    assert_eq!(answer, Ok(Some((found(3, 1_500, 1), 1))));
+    assert_eq!(least.runs(3), [0, 2, 4]);
+    assert!(least.written(3));
 
     // Back there is nothing to cross.
-    let mut l = lent(3);
-    let found = least_stress(&net, 2, 0, &mut l.best, &mut l.previous, &mut l.buffer, 0).unwrap();
-    assert_eq!(
-        found,
-        Some((
-            Found {
-                count: 2,
-                length: 600,
-                level: 1
-            },
-            1
-        ))
-    );
+    let answer = lent(0).least_stress(&net, 2, 0);
+    assert_eq!(answer, Ok(Some((found(2, 600, 1), 1))));
 }
 
 /// The paper's two inputs of program levels, as bytes.

@@ -1,25 +1,25 @@
 //! Each refusal, its order among the others, and what it leaves alone.
 
 use twin::gen::{self, damage, damage_kept, Rng, Shape, Spot};
+use twin::lend::{Guarded, Lengths, Lent};
 use twin::oracle::{self, Net};
 use twin::town::{block_town, check, end, head, line, Segment, Town};
-use twin::{is_network, judge_movement, judge_segment, least_stress, read, route, Found};
+use twin::{is_network, judge_movement, judge_segment, read, Found};
 
 /// Reads twice, here and with the oracle, and tests what the output keeps.
 fn answer(text: &[u8], room: usize) -> Result<usize, (u8, usize)> {
-    let mut output: Vec<u8> = (0..room).map(|i| (i * 7 + 3) as u8).collect();
-    let before = output.clone();
-    let answer = read(text, &mut output);
+    let mut output: Guarded<u8> = Guarded::garbage(&mut Rng::new(room as u64), room);
+    let answer = read(text, output.lend());
     match (answer, oracle::read(text, room)) {
         (Ok(written), Ok(kept)) => {
             assert_eq!(written, kept.len());
-            assert_eq!(output[..written], kept);
-            assert_eq!(output[written..], before[written..]);
+            assert_eq!(output.now()[..written], kept);
+            assert!(output.untouched_but(0, written));
             assert!(is_network(&kept));
         }
         (Err(one), Err(other)) => {
             assert_eq!(one, other, "{:?}", String::from_utf8_lossy(text));
-            assert_eq!(output, before);
+            assert!(output.untouched());
         }
         (one, other) => panic!(
             "{one:?} and {other:?} for {:?}",
@@ -379,19 +379,17 @@ fn kept_bytes() {
 
 /// 8 from every call, whatever else is wrong, and nothing written.
 fn refused_everywhere(bad: &[u8]) {
-    let (mut best, mut previous, mut buffer) = ([1; 4], [2; 4], [3; 4]);
     assert_eq!(judge_segment(bad, 5_000), Err(8));
     assert_eq!(twin::segment_levels(bad).err(), Some(8));
     assert_eq!(judge_movement(bad, 5_000, 0), Err(8));
-    assert_eq!(
-        route(bad, 9_999, 0, 0, &mut best, &mut previous, &mut buffer, 9),
-        Err(8)
-    );
-    assert_eq!(
-        least_stress(bad, 9_999, 0, &mut best, &mut previous, &mut buffer, 9),
-        Err(8)
-    );
-    assert_eq!((best, previous, buffer), ([1; 4], [2; 4], [3; 4]));
+    let lengths = Lengths {
+        place: 9,
+        ..Lengths::exact(4)
+    };
+    let mut lent = Lent::garbage(&mut Rng::new(4), lengths);
+    assert_eq!(lent.route(bad, 9_999, 0, 0), Err(8));
+    assert_eq!(lent.least_stress(bad, 9_999, 0), Err(8));
+    assert!(lent.untouched());
 }
 
 #[test]
@@ -445,24 +443,16 @@ fn refusals_of_the_routes() {
         (0, 2, 4, 6, 6, 6, usize::MAX, 11, 11),
         (1, 1, 4, 6, 6, 7, 2, 11, 11),
     ] {
-        let (mut best, mut previous, mut buffer) =
-            (vec![1; best], vec![2; previous], vec![3; buffer]);
-        let answer = route(
-            &net,
-            from,
-            to,
-            tolerance,
-            &mut best,
-            &mut previous,
-            &mut buffer,
+        let lengths = Lengths {
+            best,
+            previous,
+            buffer,
             place,
-        );
-        assert_eq!(answer, Err(one));
-        let answer = least_stress(&net, from, to, &mut best, &mut previous, &mut buffer, place);
-        assert_eq!(answer, Err(other));
-        assert!(best.iter().all(|&n| n == 1));
-        assert!(previous.iter().all(|&n| n == 2));
-        assert!(buffer.iter().all(|&n| n == 3));
+        };
+        let mut lent = Lent::garbage(&mut Rng::new(6), lengths);
+        assert_eq!(lent.route(&net, from, to, tolerance), Err(one));
+        assert_eq!(lent.least_stress(&net, from, to), Err(other));
+        assert!(lent.untouched());
     }
 }
 
@@ -476,33 +466,31 @@ fn no_segments() {
     };
     assert_eq!(judge_segment(&net, 0), Err(12));
     assert_eq!(judge_movement(&net, 0, 0), Err(12));
-    for length in 0..3 {
-        let mut buffer = vec![3; length];
-        for place in 0..=length {
+    for buffer in 0..3 {
+        let at = |place| {
+            let lengths = Lengths {
+                buffer,
+                place,
+                ..Lengths::exact(0)
+            };
+            Lent::garbage(&mut Rng::new(3), lengths)
+        };
+        for place in 0..=buffer {
+            let mut lent = at(place);
             for tolerance in 1..=4 {
-                let mut go =
-                    |a, b| route(&net, a, b, tolerance, &mut [], &mut [], &mut buffer, place);
-                assert_eq!(go(0, 0), Ok(Some(empty)));
-                assert_eq!(go(1, 1), Ok(Some(empty)));
-                assert_eq!(go(0, 1), Ok(None));
+                assert_eq!(lent.route(&net, 0, 0, tolerance), Ok(Some(empty)));
+                assert_eq!(lent.route(&net, 1, 1, tolerance), Ok(Some(empty)));
+                assert_eq!(lent.route(&net, 0, 1, tolerance), Ok(None));
             }
-            let mut go = |a, b| least_stress(&net, a, b, &mut [], &mut [], &mut buffer, place);
-            assert_eq!(go(0, 0), Ok(Some((empty, 1))));
-            assert_eq!(go(0, 1), Ok(None));
+            assert_eq!(lent.least_stress(&net, 0, 0), Ok(Some((empty, 1))));
+            assert_eq!(lent.least_stress(&net, 0, 1), Ok(None));
+            assert_eq!(lent.route(&net, 0, 2, 1), Err(9));
+            assert!(lent.untouched());
         }
-        assert_eq!(
-            route(&net, 0, 0, 1, &mut [], &mut [], &mut buffer, length + 1),
-            Err(11)
-        );
-        assert_eq!(
-            least_stress(&net, 0, 0, &mut [], &mut [], &mut buffer, length + 1),
-            Err(11)
-        );
-        assert_eq!(
-            route(&net, 0, 2, 1, &mut [], &mut [], &mut buffer, length),
-            Err(9)
-        );
-        assert!(buffer.iter().all(|&n| n == 3));
+        let mut beyond = at(buffer + 1);
+        assert_eq!(beyond.route(&net, 0, 0, 1), Err(11));
+        assert_eq!(beyond.least_stress(&net, 0, 0), Err(11));
+        assert!(beyond.untouched());
     }
 }
 

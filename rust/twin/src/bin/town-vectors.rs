@@ -7,6 +7,7 @@ use std::fs;
 use std::io;
 use std::path::Path;
 use twin::gen::{self, damage, Rng, Shape, Spot};
+use twin::lend::Lent;
 use twin::oracle::{self, Net};
 use twin::town::{block_town, check, end, head, line, Approach, Segment, Town, CENTRELINE};
 
@@ -358,8 +359,7 @@ fn expectations(town: &Town, pairs: &[(usize, usize)]) -> String {
     let net = town.bytes();
     let oracle = Net::parse(&net).expect("a network");
     let movements = oracle.movements();
-    let runs = oracle.runs();
-    let (mut best, mut previous, mut buffer) = (vec![0; runs], vec![0; runs], vec![0; runs]);
+    let mut lent = Lent::exact(oracle.runs());
     let mut out = String::new();
     let mut known: Option<(usize, Vec<Vec<Option<u32>>>)> = None;
     for &(from, to) in pairs {
@@ -382,17 +382,8 @@ fn expectations(town: &Town, pairs: &[(usize, usize)]) -> String {
             None => Vec::new(),
         };
         for (tolerance, length) in (1..).zip(&lengths) {
-            let found = twin::route(
-                &net,
-                from,
-                to,
-                tolerance,
-                &mut best,
-                &mut previous,
-                &mut buffer,
-                0,
-            )
-            .expect("no refusal");
+            let found = lent.route(&net, from, to, tolerance);
+            let found = found.expect("no refusal");
             assert_eq!(found.map(|f| f.length), *length);
             if let Some(f) = found {
                 oracle
@@ -400,7 +391,7 @@ fn expectations(town: &Town, pairs: &[(usize, usize)]) -> String {
                         from,
                         to,
                         tolerance,
-                        &buffer[..f.count],
+                        lent.runs(f.count),
                         f.count,
                         f.length,
                         f.level,
@@ -413,8 +404,8 @@ fn expectations(town: &Town, pairs: &[(usize, usize)]) -> String {
         let least = (1u8..)
             .zip(&lengths)
             .find_map(|(t, length)| length.map(|length| (t, length)));
-        let found = twin::least_stress(&net, from, to, &mut best, &mut previous, &mut buffer, 0)
-            .expect("no refusal");
+        let found = lent.least_stress(&net, from, to);
+        let found = found.expect("no refusal");
         assert_eq!(found.map(|(f, t)| (t, f.length)), least);
         let answer = least.map_or("none".into(), |(t, length)| format!("found {length} {t}"));
         let _ = writeln!(out, "{from} {to} least {answer}");
