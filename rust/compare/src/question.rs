@@ -80,13 +80,10 @@ impl fmt::Display for Seen {
 /// that is lent.
 pub fn ask(calls: &dyn Calls, bytes: &[u8], question: Question, garbage: u64) -> Seen {
     let mut rng = Rng::new(garbage);
-    let room = match question {
-        Question::Read { room } => room,
-        _ => 0,
-    };
-    let lengths = match question {
-        Question::Search { lengths, .. } => lengths,
-        _ => Lengths::exact(0),
+    let (room, lengths) = match question {
+        Question::Read { room } => (room, Lengths::exact(0)),
+        Question::Search { lengths, .. } => (0, lengths),
+        _ => (0, Lengths::exact(0)),
     };
     let mut seen = Seen {
         number: 0,
@@ -95,29 +92,33 @@ pub fn ask(calls: &dyn Calls, bytes: &[u8], question: Question, garbage: u64) ->
         output: Guarded::garbage(&mut rng, room),
         lent: Lent::garbage(&mut rng, lengths),
     };
-    if let Some(told) = seen.told.lend().first_chunk_mut() {
-        let bytes = black_box(seen.bytes.lend());
-        seen.number = match question {
-            Question::Read { .. } => calls.read(bytes, seen.output.lend(), told),
-            Question::Segment { segment } => calls.judge_segment(bytes, segment, told),
-            Question::Movement { first, second } => {
-                calls.judge_movement(bytes, first, second, told)
-            }
-            Question::Search {
-                from,
-                to,
-                tolerance,
-                ..
-            } => {
-                let lent = splicereel::Lent {
-                    best: seen.lent.best.lend(),
-                    previous: seen.lent.previous.lend(),
-                    buffer: seen.lent.buffer.lend(),
-                    place: lengths.place,
-                };
-                calls.search(bytes, from, to, tolerance, lent, told)
-            }
-        };
-    }
+    seen.number = call(calls, question, &mut seen);
     black_box(seen)
+}
+
+/// Makes the call with what is lent.
+fn call(calls: &dyn Calls, question: Question, seen: &mut Seen) -> u32 {
+    let Some(told) = seen.told.lend().first_chunk_mut() else {
+        return u32::MAX; // never: eight numbers are lent
+    };
+    let bytes = black_box(seen.bytes.lend());
+    match question {
+        Question::Read { .. } => calls.read(bytes, seen.output.lend(), told),
+        Question::Segment { segment } => calls.judge_segment(bytes, segment, told),
+        Question::Movement { first, second } => calls.judge_movement(bytes, first, second, told),
+        Question::Search {
+            from,
+            to,
+            tolerance,
+            ..
+        } => {
+            let lent = splicereel::Lent {
+                best: seen.lent.best.lend(),
+                previous: seen.lent.previous.lend(),
+                buffer: seen.lent.buffer.lend(),
+                place: seen.lent.place,
+            };
+            calls.search(bytes, from, to, tolerance, lent, told)
+        }
+    }
 }

@@ -140,8 +140,7 @@ impl Calls for Faulty {
         lent: Lent<'_>,
         told: &mut Told,
     ) -> u32 {
-        let (garbage, before) = (*told, lent.buffer.to_vec());
-        let place = lent.place;
+        let before = (lent.buffer.to_vec(), *told);
         let asked = match (self.0, tolerance) {
             (Fault::LeastAtFour, None) => Some(4),
             _ => tolerance.map(|number| self.narrow(Fault::NarrowTolerance, number)),
@@ -151,15 +150,33 @@ impl Calls for Faulty {
             best: &mut *lent.best,
             previous: &mut *lent.previous,
             buffer: &mut *lent.buffer,
-            place,
+            place: lent.place,
         };
         let number = Twin.search(net, from, to, asked, again, told);
+        if self.has(Fault::LeastAtFour) && tolerance.is_none() && told[0] == 1 {
+            told[4] = 4;
+        }
+        self.spoil_search(number, lent, told, before)
+    }
+}
+
+impl Faulty {
+    /// What comes back from a search that was answered or refused; `before` is
+    /// what buffer and `told` held.
+    fn spoil_search(
+        &self,
+        number: u32,
+        lent: Lent<'_>,
+        told: &mut Told,
+        before: (Vec<u16>, Told),
+    ) -> u32 {
+        let (place, (buffer, garbage)) = (lent.place, before);
         let last = place.saturating_add(told[1] as usize);
         match (self.0, number, told[0]) {
             (Fault::Count, 0, 1) => told[1] += 1,
             (Fault::Level, 0, 1) if told[3] < 4 => told[3] += 1,
             (Fault::Length, 0, 1) if told[1] > 20 => told[2] += 1,
-            (Fault::NotWritten, 0, 1) => lent.buffer.copy_from_slice(&before),
+            (Fault::NotWritten, 0, 1) => lent.buffer.copy_from_slice(&buffer),
             (Fault::BeforeThePlace, 0, 1) => spoil(lent.buffer, place.wrapping_sub(1)),
             (Fault::PastTheRoute, 0, 1) => spoil(lent.buffer, last),
             (Fault::BufferOnNone, 0, 0) => spoil(lent.buffer, place),
@@ -168,10 +185,9 @@ impl Calls for Faulty {
             (Fault::NoneTooSoon, 0, 1) if told[1] > 12 => {
                 *told = garbage;
                 told[0] = 0;
-                lent.buffer.copy_from_slice(&before);
+                lent.buffer.copy_from_slice(&buffer);
             }
-            (Fault::LeastAtFour, 0, 1) if tolerance.is_none() => told[4] = 4,
-            (Fault::RoomBeforeTolerance, 10, _) if before.len() <= place => return 11,
+            (Fault::RoomBeforeTolerance, 10, _) if buffer.len() <= place => return 11,
             _ => {}
         }
         number

@@ -314,7 +314,7 @@ struct Levels<'s> {
 impl Levels<'_> {
     /// Puts a run, to which a way of level `so_far` leads, in its stack if its
     /// level is the least yet; gives that level.
-    #[inline]
+    #[inline(always)]
     fn reach(&mut self, run: usize, so_far: u8) -> Option<u8> {
         if u32::from(so_far) >= self.least[run] || !self.town.open(run) {
             return None;

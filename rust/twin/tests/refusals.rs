@@ -153,122 +153,97 @@ fn numbers_of_segments() {
     assert_eq!(full(&lines(&[&head(2, 1_000)])), Err((5, 2)));
 }
 
-#[test]
-fn segment_fields() {
-    let good = path((0, 0), (1, 0))
+/// A segment with a crossing and a turn lane at B, nothing at A.
+fn good_segment() -> Segment {
+    path((0, 0), (1, 0))
         .street(1, 1, 25, 30, 0)
-        .at_b(twin::town::Approach::crossing(2, 3, 25).turning(1, 100, 15));
-    let try_one = |s: Segment| full(&Town::new(2).with(s).text());
-    assert_eq!(try_one(good), Ok(37));
-    let bad = |change: &dyn Fn(&mut Segment)| {
-        let mut s = good;
-        change(&mut s);
-        assert_eq!(try_one(s), Err((4, 2)), "{s:?}");
-        assert!(!is_network(&Town::new(2).with(s).bytes()));
-    };
-    let fine = |change: &dyn Fn(&mut Segment)| {
-        let mut s = good;
-        change(&mut s);
-        assert_eq!(try_one(s), Ok(37), "{s:?}");
-    };
-    bad(&|s| s.a.node = 2);
-    bad(&|s| s.b.node = 2);
-    bad(&|s| s.a.node = 256);
-    bad(&|s| s.a.leg = 8);
-    bad(&|s| s.b.leg = 8);
-    fine(&|s| s.b.leg = 7);
-    for length in [0, 52_801, 65_535] {
-        bad(&|s| s.length = length);
+        .at_b(twin::town::Approach::crossing(2, 3, 25).turning(1, 100, 15))
+}
+
+/// Whether a town of this one segment is accepted; if not, the number is 4,
+/// and its bytes are no network.
+fn accepted(segment: Segment) -> bool {
+    let town = Town::new(2).with(segment);
+    let answer = full(&town.text());
+    assert!(matches!(answer, Ok(37) | Err((4, 2))), "{segment:?}");
+    assert_eq!(is_network(&town.bytes()), answer.is_ok());
+    answer.is_ok()
+}
+
+/// Sets a field to each number, and asks which are accepted.
+fn field<T: Copy + std::fmt::Debug>(
+    numbers: impl IntoIterator<Item = T>,
+    set: impl Fn(&mut Segment, T),
+    good: impl Fn(T) -> bool,
+) {
+    for number in numbers {
+        let mut segment = good_segment();
+        set(&mut segment, number);
+        assert_eq!(accepted(segment), good(number), "{number:?} in {segment:?}");
     }
-    for length in [1, 255, 256, 52_800] {
-        fine(&|s| s.length = length);
-    }
-    for form in 4..=255 {
-        bad(&|s| s.form = form);
-    }
-    bad(&|s| s.form = 0); // reach 30
-    bad(&|s| s.form = 3);
-    fine(&|s| s.form = 2);
-    for ways in 0..=255 {
-        if (1..=3).contains(&ways) {
-            fine(&|s| s.ways = ways)
-        } else {
-            bad(&|s| s.ways = ways)
-        }
-    }
-    for n in 0..=255 {
-        if (1..=12).contains(&n) {
-            fine(&|s| s.lanes = n)
-        } else {
-            bad(&|s| s.lanes = n)
-        }
-        if (5..=85).contains(&n) {
-            fine(&|s| s.speed = n)
-        } else {
-            bad(&|s| s.speed = n)
-        }
-        if n <= 60 {
-            fine(&|s| s.reach = n)
-        } else {
-            bad(&|s| s.reach = n)
-        }
-        if n <= 15 {
-            fine(&|s| s.marks = n)
-        } else {
-            bad(&|s| s.marks = n)
-        }
-        if (2..=4).contains(&n) {
-            fine(&|s| s.at_b.control = n)
-        } else {
-            bad(&|s| s.at_b.control = n)
-        }
-        if (1..=12).contains(&n) {
-            fine(&|s| s.at_b.lanes = n)
-        } else {
-            bad(&|s| s.at_b.lanes = n)
-        }
-        if (5..=85).contains(&n) {
-            fine(&|s| s.at_b.speed = n)
-        } else {
-            bad(&|s| s.at_b.speed = n)
-        }
-        if (1..=3).contains(&n) {
-            fine(&|s| s.at_b.turn = n)
-        } else {
-            bad(&|s| s.at_b.turn = n)
-        }
-        if (5..=85).contains(&n) {
-            fine(&|s| s.at_b.turn_speed = n)
-        } else {
-            bad(&|s| s.at_b.turn_speed = n)
-        }
-        // The approach at A crosses nothing.
-        if n <= 1 {
-            fine(&|s| s.at_a.control = n)
-        } else {
-            bad(&|s| s.at_a.control = n)
-        }
-        if n > 0 {
-            bad(&|s| s.at_a.lanes = n);
-            bad(&|s| s.at_a.speed = n);
-            bad(&|s| s.at_a.turn = n);
-            bad(&|s| s.at_a.turn_length = u16::from(n));
-            bad(&|s| s.at_a.turn_length = u16::from(n) << 8);
-            bad(&|s| s.at_a.turn_speed = n);
-        }
-    }
-    for length in [1, 255, 256, 2_000] {
-        fine(&|s| s.at_b.turn_length = length);
-    }
-    for length in [0, 2_001, 65_535] {
-        bad(&|s| s.at_b.turn_length = length);
-    }
+}
+
+#[test]
+fn fields_of_the_ends() {
+    // The ends stay at different nodes.
+    field([0, 2, 255, 256, 65_535], |s, n| s.a.node = n, |n| n < 2);
+    field([1, 2, 255, 256, 65_535], |s, n| s.b.node = n, |n| n < 2);
+    field(0..=255, |s, n| s.a.leg = n, |n| n < 8);
+    field(0..=255, |s, n| s.b.leg = n, |n| n < 8);
+}
+
+#[test]
+fn fields_of_the_street() {
+    let every = 0..=255u8;
+    let lengths = [0, 1, 255, 256, 52_800, 52_801, 65_535];
+    field(lengths, |s, n| s.length = n, |n| (1..=52_800).contains(&n));
+    // With reach 30, forms 0 and 3 are against the rules.
+    field(every.clone(), |s, n| s.form = n, |n| n == 1 || n == 2);
+    field(every.clone(), |s, n| s.ways = n, |n| (1..=3).contains(&n));
+    field(every.clone(), |s, n| s.lanes = n, |n| (1..=12).contains(&n));
+    field(every.clone(), |s, n| s.speed = n, |n| (5..=85).contains(&n));
+    field(every.clone(), |s, n| s.reach = n, |n| n <= 60);
+    field(every, |s, n| s.marks = n, |n| n <= 15);
     // A path has lanes, speed, reach and marks 0.
     let path = path((0, 0), (1, 0));
+    assert!(accepted(path));
     for one in [(1, 0, 0, 0), (0, 5, 0, 0), (0, 0, 1, 0), (0, 0, 0, 1)] {
-        let s = path.street(3, one.0, one.1, one.2, one.3);
-        assert_eq!(try_one(s), Err((4, 2)));
+        assert!(!accepted(path.street(3, one.0, one.1, one.2, one.3)));
     }
+}
+
+#[test]
+fn fields_of_the_approaches() {
+    let every = 0..=255u8;
+    let lanes = |n| (1..=12).contains(&n);
+    let speed = |n| (5..=85).contains(&n);
+    field(
+        every.clone(),
+        |s, n| s.at_b.control = n,
+        |n| (2..=4).contains(&n),
+    );
+    field(every.clone(), |s, n| s.at_b.lanes = n, lanes);
+    field(every.clone(), |s, n| s.at_b.speed = n, speed);
+    field(
+        every.clone(),
+        |s, n| s.at_b.turn = n,
+        |n| (1..=3).contains(&n),
+    );
+    field(every.clone(), |s, n| s.at_b.turn_speed = n, speed);
+    let lengths = [0, 1, 255, 256, 2_000, 2_001, 65_535];
+    field(
+        lengths,
+        |s, n| s.at_b.turn_length = n,
+        |n| (1..=2_000).contains(&n),
+    );
+    // The approach at A crosses nothing and has no turn lane.
+    let zero = |n| n == 0;
+    field(every.clone(), |s, n| s.at_a.control = n, |n| n <= 1);
+    field(every.clone(), |s, n| s.at_a.lanes = n, zero);
+    field(every.clone(), |s, n| s.at_a.speed = n, zero);
+    field(every.clone(), |s, n| s.at_a.turn = n, zero);
+    field(every, |s, n| s.at_a.turn_speed = n, zero);
+    field(lengths, |s, n| s.at_a.turn_length = n, |n| n == 0);
 }
 
 #[test]
