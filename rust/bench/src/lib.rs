@@ -125,7 +125,7 @@ impl Subject {
     }
 
     /// Makes a call with one of the questions; gives the refusal's number or
-    /// 0, and for a search whether it found a route.
+    /// 0, and whether there was something to tell: for a search, a route.
     #[inline]
     pub fn ask(&mut self, side: Side, call: Call, question: usize) -> (u32, bool) {
         let question = question % QUESTIONS;
@@ -201,4 +201,26 @@ fn movements(rng: &mut Rng, net: &[u8]) -> Vec<(usize, usize)> {
         (first, second.unwrap_or(turn))
     };
     (0..QUESTIONS).map(|_| one(rng)).collect()
+}
+
+#[cfg(test)]
+mod tests {
+    use super::{Call, Side, Subject, QUESTIONS};
+
+    /// What is timed is the same work: both sides answer every question alike.
+    #[test]
+    fn both_sides_answer_alike() {
+        for segments in [30, 125] {
+            let mut subject = Subject::new(&twin::gen::mixed_grid(11, segments), 11);
+            for call in Call::ALL {
+                let mut found = 0;
+                for question in 0..QUESTIONS {
+                    let archive = subject.ask(Side::Archive, call, question);
+                    assert_eq!(archive, subject.ask(Side::Twin, call, question), "{call:?}");
+                    found += usize::from(archive == (0, true));
+                }
+                assert!(found > 0, "{call:?} never found anything");
+            }
+        }
+    }
 }

@@ -47,8 +47,8 @@ impl fmt::Display for Mismatch {
         writeln!(out, "MISMATCH: {}", self.complaint)?;
         writeln!(
             out,
-            "seed {}, round {}, case {}, garbage from {}; replay: compare replay {} {}",
-            self.seed, self.round, self.case, self.garbage, self.seed, self.round
+            "seed {0}, round {1}, case {2}, garbage from {3}; again by: rust/target/release/compare replay {0} {1}",
+            self.seed, self.round, self.case, self.garbage
         )?;
         writeln!(out, "town: {}", self.about)?;
         writeln!(out, "question: {}", self.question)?;

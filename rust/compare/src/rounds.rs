@@ -362,3 +362,30 @@ fn no_networks(comparer: &mut Comparer<'_>, rng: &mut Rng, subject: &Subject) ->
     }
     Ok(())
 }
+
+#[cfg(test)]
+mod tests {
+    use super::consistent;
+    use splicereel::ffi::Told;
+
+    fn found(length: u32, tolerance: u32) -> Told {
+        [1, 1, length, 1, tolerance, 0, 0, 0]
+    }
+
+    #[test]
+    fn answers_about_one_pair() {
+        let none = Told::default();
+        let rising = [none, found(900, 0), found(900, 0), found(600, 0)];
+        let with = |routes: [Told; 4], least: Told| consistent(&[&routes[..], &[least]].concat());
+        assert_eq!(with(rising, found(900, 2)), Ok(()));
+        assert_eq!(with([none; 4], none), Ok(()));
+
+        let lost = [none, found(900, 0), none, found(600, 0)];
+        let longer = [none, found(900, 0), found(901, 0), found(600, 0)];
+        assert!(with(lost, found(900, 2)).is_err());
+        assert!(with(longer, found(900, 2)).is_err());
+        for least in [none, found(900, 3), found(600, 2)] {
+            assert!(with(rising, least).is_err(), "{least:?}");
+        }
+    }
+}

@@ -115,9 +115,7 @@ impl Site {
     }
 
     fn wrong_check(mut self, rng: &mut Rng) -> Faulty {
-        let frame = &mut self.frames[self.place];
-        let at = rng.below(frame.len());
-        frame[at] = frame[at].wrapping_add(rng.range(1, 255) as u8);
+        change_byte(rng, &mut self.frames[self.place]);
         self.faulty("a byte changed")
     }
 
@@ -220,6 +218,12 @@ impl Site {
         seal(&mut self.frames[place]);
         Some(self.faulty(what))
     }
+}
+
+/// Changes one byte, so that the check is wrong.
+fn change_byte(rng: &mut Rng, frame: &mut [u8]) {
+    let at = rng.below(frame.len());
+    frame[at] = frame[at].wrapping_add(rng.range(1, 255) as u8);
 }
 
 /// A segment frame of zeros after its kind, not sealed.
@@ -464,11 +468,7 @@ pub fn damage_kept(rng: &mut Rng, net: &[u8]) -> Vec<u8> {
     let segments = bad.len() - 1;
     let place = rng.below(bad.len());
     match rng.below(9) {
-        0 => {
-            let frame = &mut bad[place];
-            let at = rng.below(frame.len());
-            frame[at] = frame[at].wrapping_add(rng.range(1, 255) as u8);
-        }
+        0 => change_byte(rng, &mut bad[place]),
         1 => return net[..rng.below(net.len())].to_vec(),
         2 => return [net, &vec![0; rng.pick(&[1, 7, 29, 30, 60])]].concat(),
         3 => {
