@@ -7,6 +7,7 @@ SEED ?= 1
 LIB := target/staticlib/libsplicereel_c.a
 CARGO := cargo
 RUST := --offline --release --manifest-path rust/Cargo.toml
+TIMED := --offline --profile timed --manifest-path rust/Cargo.toml
 CFLAGS := -std=c11 -O2 -Wall -Wextra -Wpedantic -Werror
 
 .PHONY: help lib rust compare bench instructions examples
@@ -36,7 +37,7 @@ compare: $(LIB)
 	$(CARGO) run $(RUST) --package splicereel-compare -- $(MINUTES) $(SEED)
 
 bench: $(LIB)
-	$(CARGO) run $(RUST) --package splicereel-bench
+	$(CARGO) run $(TIMED) --package splicereel-bench
 
 instructions: $(LIB)
 	rust/bench/instructions

@@ -157,7 +157,7 @@ fn main() {
     println!("# Times\n");
     println!(
         "Microseconds for one call, archive / twin = **ratio**; medians of {SAMPLES} samples for each side, \
-         taken by turns, a sample at least {} ms of calls over {QUESTIONS} questions. Release builds, {}, {}. \
+         taken by turns, a sample at least {} ms of calls over {QUESTIONS} questions. Release builds with link-time optimization, {}, {}. \
          Nothing is cleared before a call: scratch and buffer hold what the call before left. \
          Judge a segment and Judge a movement include the test of the kept bytes.\n",
         SAMPLE / 1e3,
