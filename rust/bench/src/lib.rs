@@ -1,7 +1,9 @@
 //! The same calls with the same inputs on the archive and on the twin.
 
-#![forbid(unsafe_code)]
+#![deny(unsafe_code)]
 #![deny(missing_docs)]
+
+pub mod clock;
 
 use splicereel::ffi::{self, Lent, Told};
 use std::hint::black_box;

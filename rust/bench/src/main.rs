@@ -1,9 +1,9 @@
 //! `bench` times every call on the archive and on the twin and prints
 //! Markdown tables.
 
+use bench::clock::microseconds;
 use bench::{Call, Side, Subject, QUESTIONS};
 use std::fs;
-use std::time::Instant;
 use twin::gen::{self, Shape};
 
 /// Sizes of the first table, in segments; growth is from the first to the
@@ -12,32 +12,38 @@ const SIZES: [usize; 4] = [125, 250, 500, 1_000];
 /// Samples of each side; odd, so that one is the median.
 const SAMPLES: usize = 41;
 /// A sample takes at least so many microseconds.
-const SAMPLE: f64 = 2_000.0;
+const SAMPLE: f64 = 500.0;
 /// Where the towns and questions come from.
 const SEED: u64 = 11;
 
-/// Microseconds for one call: each side's median.
+/// Microseconds for one call, each side's median, and the median of the ratios
+/// of samples taken one after the other.
 #[derive(Clone, Copy)]
 struct Times {
     archive: f64,
     twin: f64,
+    ratio: f64,
 }
 
 impl Times {
     fn cell(self) -> String {
-        let ratio = self.archive / self.twin;
-        format!("{:.1} / {:.1} = **{ratio:.2}**", self.archive, self.twin)
+        let Times {
+            archive,
+            twin,
+            ratio,
+        } = self;
+        format!("{archive:.1} / {twin:.1} = **{ratio:.2}**")
     }
 }
 
 /// Microseconds for one call, as a mean over every question so many times.
 fn sample(subject: &mut Subject, side: Side, call: Call, rounds: usize) -> f64 {
     let calls = rounds * QUESTIONS;
-    let start = Instant::now();
+    let start = microseconds();
     for question in 0..calls {
         subject.ask(side, call, question);
     }
-    start.elapsed().as_secs_f64() * 1e6 / calls as f64
+    (microseconds() - start) / calls as f64
 }
 
 fn median(mut samples: Vec<f64>) -> f64 {
@@ -49,23 +55,20 @@ fn median(mut samples: Vec<f64>) -> f64 {
 fn time(subject: &mut Subject, call: Call) -> Times {
     let once = sample(subject, Side::Twin, call, 1) * QUESTIONS as f64;
     let rounds = 1 + (SAMPLE / once) as usize;
-    let (mut archive, mut twin) = (Vec::new(), Vec::new());
-    for turn in 0..SAMPLES {
-        let mut sides = Side::BOTH;
-        if turn % 2 == 1 {
-            sides.reverse();
+    let mut turn = |turn: usize| {
+        if turn.is_multiple_of(2) {
+            let archive = sample(subject, Side::Archive, call, rounds);
+            (archive, sample(subject, Side::Twin, call, rounds))
+        } else {
+            let twin = sample(subject, Side::Twin, call, rounds);
+            (sample(subject, Side::Archive, call, rounds), twin)
         }
-        for side in sides {
-            let samples = match side {
-                Side::Archive => &mut archive,
-                Side::Twin => &mut twin,
-            };
-            samples.push(sample(subject, side, call, rounds));
-        }
-    }
+    };
+    let turns: Vec<(f64, f64)> = (0..SAMPLES).map(&mut turn).collect();
     Times {
-        archive: median(archive),
-        twin: median(twin),
+        archive: median(turns.iter().map(|turn| turn.0).collect()),
+        twin: median(turns.iter().map(|turn| turn.1).collect()),
+        ratio: median(turns.iter().map(|turn| turn.0 / turn.1).collect()),
     }
 }
 
@@ -156,8 +159,9 @@ fn machine() -> String {
 fn main() {
     println!("# Times\n");
     println!(
-        "Microseconds for one call, archive / twin = **ratio**; medians of {SAMPLES} samples for each side, \
-         taken by turns, a sample at least {} ms of calls over {QUESTIONS} questions. Release builds with link-time optimization, {}, {}. \
+        "Microseconds of processor time for one call, archive / twin = **ratio**; medians of {SAMPLES} samples for each side, \
+         taken by turns, a sample at least {} ms of calls over {QUESTIONS} questions; the ratio is the median of those \
+         of two samples taken one after the other. Release builds with link-time optimization, {}, {}. \
          Nothing is cleared before a call: scratch and buffer hold what the call before left. \
          Judge a segment and Judge a movement include the test of the kept bytes.\n",
         SAMPLE / 1e3,
