@@ -22,9 +22,9 @@
 //! | 13 | no movement |
 //!
 //! Besides the calls there are [`town`], which builds networks field by
-//! field, [`gen`], which draws random towns and damages them on purpose, and
-//! [`oracle`], a slow second implementation that shares no code with the
-//! calls.
+//! field, [`gen`], which draws random towns and damages them on purpose,
+//! [`lend`], which keeps what is lent between guards, and [`oracle`], a slow
+//! second implementation that shares no code with the calls.
 
 #![forbid(unsafe_code)]
 #![deny(missing_docs)]
@@ -37,7 +37,9 @@ mod read;
 mod search;
 
 pub mod gen;
+pub mod lend;
 pub mod oracle;
+pub mod program;
 pub mod town;
 
 pub use network::{is_network, judge_movement, judge_segment, segment_levels};

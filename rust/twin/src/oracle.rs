@@ -192,62 +192,75 @@ impl Street {
     }
 
     fn judge(&self) -> (u8, u8) {
+        match self.form {
+            0 => (self.mixed(), 5),
+            1 => governing(self.beside_parking()),
+            2 => governing(self.without_parking()),
+            _ => (1, 6),
+        }
+    }
+
+    fn mixed(&self) -> u8 {
         let band = band(self.speed);
-        let blocked = if self.marked(8) { 3 } else { 1 };
-        let four = match self.form {
-            0 => {
-                let calm = self.lanes <= 2 && (self.marked(2) || !self.marked(1));
-                let class = if self.lanes <= 3 {
-                    0
-                } else if self.lanes <= 5 {
-                    1
-                } else {
-                    2
-                };
-                return (
-                    if calm {
-                        MIXED_CALM[band]
-                    } else {
-                        MIXED[class][band]
-                    },
-                    5,
-                );
-            }
-            1 => [
-                if self.lanes == 1 { 1 } else { 3 },
-                if self.reach >= 30 {
-                    1
-                } else if self.reach >= 28 {
-                    2
-                } else {
-                    3
-                },
-                PARKING_SPEED[band],
-                blocked,
-            ],
-            2 => [
-                if self.lanes == 1 {
-                    1
-                } else if self.lanes == 2 && self.marked(4) {
-                    2
-                } else {
-                    3
-                },
-                if self.reach >= 12 { 1 } else { 2 },
-                LANE_SPEED[band],
-                blocked,
-            ],
-            _ => return (1, 6),
+        if self.lanes <= 2 && (self.marked(2) || !self.marked(1)) {
+            MIXED_CALM[band]
+        } else if self.lanes <= 3 {
+            MIXED[0][band]
+        } else if self.lanes <= 5 {
+            MIXED[1][band]
+        } else {
+            MIXED[2][band]
+        }
+    }
+
+    fn beside_parking(&self) -> [u8; 4] {
+        let reach = if self.reach >= 30 {
+            1
+        } else if self.reach >= 28 {
+            2
+        } else {
+            3
         };
-        for level in [4, 3, 2] {
-            for (i, &each) in four.iter().enumerate() {
-                if each == level {
-                    return (level, i as u8 + 1);
-                }
+        let lanes = if self.lanes == 1 { 1 } else { 3 };
+        [
+            lanes,
+            reach,
+            PARKING_SPEED[band(self.speed)],
+            self.blocked(),
+        ]
+    }
+
+    fn without_parking(&self) -> [u8; 4] {
+        let lanes = if self.lanes == 1 {
+            1
+        } else if self.lanes == 2 && self.marked(4) {
+            2
+        } else {
+            3
+        };
+        let reach = if self.reach >= 12 { 1 } else { 2 };
+        [lanes, reach, LANE_SPEED[band(self.speed)], self.blocked()]
+    }
+
+    fn blocked(&self) -> u8 {
+        if self.marked(8) {
+            3
+        } else {
+            1
+        }
+    }
+}
+
+/// The greatest of four levels, and the lowest-numbered measure that has it.
+fn governing(four: [u8; 4]) -> (u8, u8) {
+    for level in [4, 3, 2] {
+        for (measure, each) in (1..).zip(four) {
+            if each == level {
+                return (level, measure);
             }
         }
-        (1, 1)
     }
+    (1, 1)
 }
 
 /// A parsed network.
@@ -392,32 +405,17 @@ impl Net {
         tolerance: u8,
     ) -> Vec<Option<u32>> {
         let usable = |run: usize| self.open(run) && self.streets[run / 2].judge().0 <= tolerance;
-        let usable: Vec<bool> = (0..self.runs()).map(usable).collect();
-        let mut length: Vec<Option<u32>> = vec![None; self.runs()];
-        for run in 0..self.runs() {
-            if usable[run] && self.ends(run).0 .0 as usize == from {
-                length[run] = Some(self.streets[run / 2].length);
-            }
-        }
-        loop {
-            let mut changed = false;
-            for &(p, q, level) in movements {
-                let both = usable.get(p) == Some(&true) && usable.get(q) == Some(&true);
-                if level > tolerance || !both {
-                    continue;
-                }
-                if let Some(before) = length[p] {
-                    let through = before + self.streets[q / 2].length;
-                    if length[q].is_none_or(|now| through < now) {
-                        length[q] = Some(through);
-                        changed = true;
-                    }
-                }
-            }
-            if !changed {
-                break;
-            }
-        }
+        let feet = |run: usize| self.streets[run / 2].length;
+        let first = |run: usize| usable(run) && self.ends(run).0 .0 as usize == from;
+        let mut length: Vec<Option<u32>> = (0..self.runs())
+            .map(|run| first(run).then(|| feet(run)))
+            .collect();
+        let steps: Vec<(usize, usize, u32)> = movements
+            .iter()
+            .filter(|&&(p, q, level)| level <= tolerance && usable(p) && usable(q))
+            .map(|&(p, q, _)| (p, q, feet(q)))
+            .collect();
+        relax(&steps, &mut length);
         let mut nodes: Vec<Option<u32>> = vec![None; self.nodes()];
         for run in 0..self.runs() {
             if let Some(this) = length[run] {
@@ -509,6 +507,26 @@ impl Net {
     }
 }
 
+/// Takes steps from run to run, with the feet each adds, until no run's length
+/// changes.
+fn relax(steps: &[(usize, usize, u32)], length: &mut [Option<u32>]) {
+    loop {
+        let mut changed = false;
+        for &(p, q, feet) in steps {
+            if let Some(before) = length[p] {
+                let through = before + feet;
+                if length[q].is_none_or(|now| through < now) {
+                    length[q] = Some(through);
+                    changed = true;
+                }
+            }
+        }
+        if !changed {
+            break;
+        }
+    }
+}
+
 fn sum_is_zero(bytes: &[u8]) -> bool {
     bytes.iter().map(|&b| u64::from(b)).sum::<u64>() % 256 == 0
 }
@@ -518,51 +536,50 @@ fn sum_is_zero(bytes: &[u8]) -> bool {
 /// `room` is the length of the lent output.
 pub fn read(text: &[u8], room: usize) -> Result<Vec<u8>, (u8, usize)> {
     // Lines with their ends; the last piece only if bytes follow the last 0A.
-    let lines: Vec<&[u8]> = text.split_inclusive(|&b| b == b'\n').collect();
-    if lines.is_empty() {
-        return Err((3, 1));
+    let mut lines = (1..).zip(text.split_inclusive(|&b| b == b'\n'));
+    let (_, first) = lines.next().ok_or((3, 1))?;
+    let mut kept = sound_frame(first, 1, 7).map_err(|number| (number, 1))?;
+    let nodes = u32::from(kept[2]) * 256 + u32::from(kept[3]);
+    let segments = usize::from(kept[4]) * 256 + usize::from(kept[5]);
+    if kept[1] != 1 || nodes == 0 || nodes > 1000 || segments > 1000 {
+        return Err((4, 1));
     }
-    let mut kept = Vec::new();
-    let mut nodes = 0;
-    let mut segments = 0;
+    if room < 7 + 30 * segments {
+        return Err((7, 1));
+    }
     let mut taken: Vec<(u32, u32)> = Vec::new();
-    for (i, line) in lines.iter().enumerate() {
-        let number = i + 1;
-        let frame = line_bytes(line).ok_or((1, number))?;
-        if !sum_is_zero(&frame) {
-            return Err((2, number));
+    let mut last = 1;
+    for (line, digits) in lines {
+        let frame = sound_frame(digits, 2, 30).map_err(|number| (number, line))?;
+        if line > segments + 1 {
+            return Err((5, line));
         }
-        let (kind, size) = if i == 0 { (1, 7) } else { (2, 30) };
-        if frame.len() != size || frame[0] != kind {
-            return Err((3, number));
-        }
-        if i == 0 {
-            nodes = u32::from(frame[2]) * 256 + u32::from(frame[3]);
-            segments = usize::from(frame[4]) * 256 + usize::from(frame[5]);
-            if frame[1] != 1 || nodes == 0 || nodes > 1000 || segments > 1000 {
-                return Err((4, 1));
+        let street = Street::parse(&frame[1..29], nodes).ok_or((4, line))?;
+        for end in street.ends {
+            if taken.contains(&end) {
+                return Err((6, line));
             }
-            if room < 7 + 30 * segments {
-                return Err((7, 1));
-            }
-        } else {
-            if i > segments {
-                return Err((5, number));
-            }
-            let street = Street::parse(&frame[1..29], nodes).ok_or((4, number))?;
-            for end in street.ends {
-                if taken.contains(&end) {
-                    return Err((6, number));
-                }
-                taken.push(end);
-            }
+            taken.push(end);
         }
         kept.extend(frame);
+        last = line;
     }
-    if lines.len() < segments + 1 {
-        return Err((5, lines.len() + 1));
+    if last < segments + 1 {
+        return Err((5, last + 1));
     }
     Ok(kept)
+}
+
+/// The frame of a line, of this kind and size; or 1, 2 or 3.
+fn sound_frame(line: &[u8], kind: u8, size: usize) -> Result<Vec<u8>, u8> {
+    let frame = line_bytes(line).ok_or(1)?;
+    if !sum_is_zero(&frame) {
+        return Err(2);
+    }
+    if frame.len() != size || frame[0] != kind {
+        return Err(3);
+    }
+    Ok(frame)
 }
 
 /// The bytes of a line that is whole pairs of uppercase digits ended by 0A.

@@ -15,7 +15,7 @@ pub fn read(text: &[u8], output: &mut [u8]) -> Result<usize, (u8, usize)> {
     if text.is_empty() {
         return Err((3, 1));
     }
-    let (frame, mut rest) = first_frame::<HEAD>(text, HEAD_KIND).map_err(|number| (number, 1))?;
+    let (frame, rest) = first_frame::<HEAD>(text, HEAD_KIND).map_err(|number| (number, 1))?;
     let head = Head::decode(&frame).ok_or((4, 1))?;
     let size = head.size();
     if output.len() < size {
@@ -24,6 +24,22 @@ pub fn read(text: &[u8], output: &mut [u8]) -> Result<usize, (u8, usize)> {
 
     // Decoded here first, for a refusal may still come.
     let mut kept = [[0; SEGMENT]; MAX_SEGMENTS];
+    let kept = &mut kept[..head.segments];
+    segments(rest, head.nodes, kept)?;
+
+    let (first, others) = output[..size].split_at_mut(HEAD);
+    first.copy_from_slice(&frame);
+    others.copy_from_slice(kept.as_flattened());
+    Ok(size)
+}
+
+/// Reads the lines after the head, a segment for each place.
+#[inline]
+fn segments(
+    mut rest: &[u8],
+    nodes: usize,
+    places: &mut [[u8; SEGMENT]],
+) -> Result<(), (u8, usize)> {
     let mut taken = [0u8; MAX_NODES];
     let mut claim = |end: End| {
         let legs = &mut taken[end.node];
@@ -32,14 +48,14 @@ pub fn read(text: &[u8], output: &mut [u8]) -> Result<usize, (u8, usize)> {
         *legs |= bit;
         free
     };
-    let mut places = kept[..head.segments].iter_mut();
+    let mut places = places.iter_mut();
     let mut line = 2;
     while !rest.is_empty() {
         let (segment, after) =
             first_frame::<SEGMENT>(rest, SEGMENT_KIND).map_err(|number| (number, line))?;
         let place = places.next().ok_or((5, line))?;
         let fields = Segment(&segment);
-        if !fields.in_order(head.nodes) {
+        if !fields.in_order(nodes) {
             return Err((4, line));
         }
         if !(claim(fields.a()) && claim(fields.b())) {
@@ -49,14 +65,11 @@ pub fn read(text: &[u8], output: &mut [u8]) -> Result<usize, (u8, usize)> {
         rest = after;
         line += 1;
     }
-    if places.len() != 0 {
-        return Err((5, line));
+    if places.len() == 0 {
+        Ok(())
+    } else {
+        Err((5, line))
     }
-
-    let (first, others) = output[..size].split_at_mut(HEAD);
-    first.copy_from_slice(&frame);
-    others.copy_from_slice(kept[..head.segments].as_flattened());
-    Ok(size)
 }
 
 /// Takes the first line as a frame of `L` bytes and the given kind.

@@ -302,11 +302,37 @@ fn write(
     }
 }
 
+/// Runs reached so far, by the level of the way to them.
+struct Levels<'s> {
+    town: &'s Network<'s, 's>,
+    /// The least level known for each run.
+    least: &'s mut [u32],
+    /// Runs that wait to be gone on from, a stack for each level.
+    waiting: [Vec<u16>; 4],
+}
+
+impl Levels<'_> {
+    /// Puts a run, to which a way of level `so_far` leads, in its stack if its
+    /// level is the least yet; gives that level.
+    #[inline(always)]
+    fn reach(&mut self, run: usize, so_far: u8) -> Option<u8> {
+        if u32::from(so_far) >= self.least[run] || !self.town.open(run) {
+            return None;
+        }
+        let level = so_far.max(self.town.level(run));
+        if u32::from(level) >= self.least[run] {
+            return None;
+        }
+        self.least[run] = u32::from(level);
+        self.waiting[usize::from(level) - 1].push(run as u16); // below 2,000
+        Some(level)
+    }
+}
+
 /// The smallest tolerance at which a route exists.
 ///
-/// Reached runs wait in four stacks, by the level of the way to them; the
-/// stacks are emptied from the lowest, so a run is first taken at its least.
-/// `least` gets the least level known for each run.
+/// The stacks of waiting runs are emptied from the lowest level, so a run is
+/// first taken at its least. `least` is scratch.
 fn least_tolerance(
     town: &Network<'_, '_>,
     from: usize,
@@ -315,30 +341,21 @@ fn least_tolerance(
 ) -> Option<u8> {
     const NEVER: u32 = 5;
     least.fill(NEVER);
-    let mut waiting: [Vec<u16>; 4] = Default::default();
-    let mut served = Served::new();
-    // The level of the way to `run`, if that is the least yet.
-    let reach = |least: &mut [u32], run: usize, so_far: u8| {
-        if u32::from(so_far) >= least[run] || !town.open(run) {
-            return None;
-        }
-        let level = so_far.max(town.level(run));
-        if u32::from(level) >= least[run] {
-            return None;
-        }
-        least[run] = u32::from(level);
-        Some(level)
+    let waiting = Default::default();
+    let mut levels = Levels {
+        town,
+        least,
+        waiting,
     };
+    let mut served = Served::new();
     for &run in town.corner(from).iter().filter(|&&run| run != UNUSED) {
-        if let Some(level) = reach(least, usize::from(run), 1) {
-            waiting[usize::from(level) - 1].push(run);
-        }
+        levels.reach(usize::from(run), 1);
     }
     for tolerance in 1..=4 {
-        while let Some(run) = waiting[usize::from(tolerance) - 1].pop() {
+        while let Some(run) = levels.waiting[usize::from(tolerance) - 1].pop() {
             let run = usize::from(run);
             let at = town.arrives(run);
-            if least[run] < u32::from(tolerance) || served.fully(at.node) {
+            if levels.least[run] < u32::from(tolerance) || served.fully(at.node) {
                 continue; // taken at a lower level, or of no use
             }
             if at.node == to {
@@ -347,11 +364,9 @@ fn least_tolerance(
             let arrival = town.arrival(run);
             served.count(at.node, arrival, tolerance);
             for (next, level) in movements(town, at, arrival) {
-                if let Some(level) = reach(least, next, level.max(tolerance)) {
-                    if level == tolerance && town.arrives(next).node == to {
-                        return Some(tolerance);
-                    }
-                    waiting[usize::from(level) - 1].push(next as u16);
+                let reached = levels.reach(next, level.max(tolerance));
+                if reached == Some(tolerance) && town.arrives(next).node == to {
+                    return Some(tolerance);
                 }
             }
         }

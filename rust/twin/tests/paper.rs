@@ -1,9 +1,11 @@
 //! Every example that the paper prints, through the calls and the oracle.
 
+use twin::gen::Rng;
+use twin::lend::{Lengths, Lent};
 use twin::oracle::{self, Net};
 use twin::town::{block_town, end, Approach, Segment, Town};
 use twin::town::{CENTRELINE, MEDIAN, RESIDENTIAL};
-use twin::{judge_movement, judge_segment, least_stress, read, route, Found};
+use twin::{judge_movement, judge_segment, read, Found};
 
 /// Level and measure of one street, checked with the oracle.
 fn street(form: u8, lanes: u8, speed: u8, reach: u8, marks: u8) -> (u8, u8) {
@@ -95,55 +97,51 @@ fn turn_lanes() {
     assert_eq!(turn_lane(3, 151, 15), 4);
 }
 
-/// The rest of the prose on levels, value by value.
+/// "To 3 lanes: 1 or 2 to 25 mph, 2 or 3 at 26 to 30, else 4; the lower of a
+/// pair exactly when .. 4 or 5 lanes: 3 to 25 mph, else 4. 6 or more: 4."
 #[test]
-fn tables_as_written() {
-    // Form 0: "To 3 lanes: 1 or 2 to 25 mph, 2 or 3 at 26 to 30, else 4".
+fn mixed_traffic_as_written() {
     for speed in 5..=85u8 {
         for lanes in 1..=12u8 {
             for marks in 0..16u8 {
                 let low = lanes <= 2 && (marks & RESIDENTIAL != 0 || marks & CENTRELINE == 0);
-                let level = if lanes <= 3 {
-                    if speed <= 25 {
-                        if low {
-                            1
-                        } else {
-                            2
-                        }
-                    } else if speed <= 30 {
-                        if low {
-                            2
-                        } else {
-                            3
-                        }
-                    } else {
-                        4
-                    }
-                } else if lanes <= 5 && speed <= 25 {
-                    3
-                } else {
-                    4
+                let level = match (lanes, speed) {
+                    (..=3, ..=25) => 2 - u8::from(low),
+                    (..=3, 26..=30) => 3 - u8::from(low),
+                    (4 | 5, ..=25) => 3,
+                    _ => 4,
                 };
                 assert_eq!(street(0, lanes, speed, 0, marks), (level, 5));
             }
         }
     }
-    let bands = [5, 25, 26, 30, 31, 35, 36, 85];
-    let no_island = ["124", "124", "124", "124", "234", "234", "344", "344"];
-    let island = ["112", "112", "123", "123", "234", "234", "344", "344"];
-    let one_way = [
-        "1224", "1224", "1244", "1244", "2444", "2444", "4444", "4444",
+}
+
+/// Both ends of each band, every number of lanes.
+#[test]
+fn crossings_as_written() {
+    let rows = [
+        ([5, 25], "124", "112", "1224"),
+        ([26, 30], "124", "123", "1244"),
+        ([31, 35], "234", "234", "2444"),
+        ([36, 85], "344", "344", "4444"),
     ];
-    for (i, speed) in bands.into_iter().enumerate() {
-        let digit = |text: &str, at: usize| text.as_bytes()[at] - b'0';
-        for lanes in 1..=12usize {
-            let wide = [0, 0, 0, 0, 1, 1, 2, 2, 2, 2, 2, 2, 2][lanes];
-            let lane = lanes.min(4) - 1;
-            assert_eq!(crossing(2, lanes as u8, speed), digit(no_island[i], wide));
-            assert_eq!(crossing(3, lanes as u8, speed), digit(island[i], wide));
-            assert_eq!(crossing(4, lanes as u8, speed), digit(one_way[i], lane));
+    let digit = |text: &str, at: usize| text.as_bytes()[at] - b'0';
+    for (speeds, no_island, island, one_way) in rows {
+        for speed in speeds {
+            for lanes in 1..=12u8 {
+                let wide = usize::from(lanes > 3) + usize::from(lanes > 5);
+                let lane = usize::from(lanes.min(4)) - 1;
+                assert_eq!(crossing(2, lanes, speed), digit(no_island, wide));
+                assert_eq!(crossing(3, lanes, speed), digit(island, wide));
+                assert_eq!(crossing(4, lanes, speed), digit(one_way, lane));
+            }
         }
     }
+}
+
+#[test]
+fn turn_lanes_as_written() {
     for (kind, length, speed, level) in [
         (1, 1, 5, 2),
         (1, 150, 15, 2),
@@ -159,11 +157,8 @@ fn tables_as_written() {
         (3, 150, 16, 4),
         (3, 151, 15, 4),
     ] {
-        assert_eq!(
-            turn_lane(kind, length, speed),
-            level,
-            "{kind} {length} {speed}"
-        );
+        let answer = turn_lane(kind, length, speed);
+        assert_eq!(answer, level, "{kind} {length} {speed}");
     }
 }
 
@@ -178,17 +173,23 @@ fn both_on_one_approach() {
     assert_eq!(both(3, 200, 15, 3, 4, 25), (4, 4));
 }
 
-struct Lent {
-    best: Vec<u32>,
-    previous: Vec<u32>,
-    buffer: Vec<u16>,
+/// What Block town's three segments need, from a place on, and five numbers
+/// more.
+fn lent(place: usize) -> Lent {
+    let lengths = Lengths {
+        buffer: 11,
+        place,
+        ..Lengths::exact(6)
+    };
+    Lent::garbage(&mut Rng::new(77), lengths)
 }
 
-fn lent(segments: usize) -> Lent {
-    Lent {
-        best: vec![77; 2 * segments],
-        previous: vec![78; 2 * segments],
-        buffer: vec![60_000; 2 * segments + 5],
+/// A route's count, length and level.
+fn found(count: usize, length: u32, level: u8) -> Found {
+    Found {
+        count,
+        length,
+        level,
     }
 }
 
@@ -196,82 +197,27 @@ fn lent(segments: usize) -> Lent {
 fn block_town_at_each_tolerance() {
     let net = block_town().bytes();
     for tolerance in 1..=3 {
-        let mut l = lent(3);
-        let found = route(
-            &net,
-            0,
-            2,
-            tolerance,
-            &mut l.best,
-            &mut l.previous,
-            &mut l.buffer,
-            2,
-        )
-        .unwrap();
-        assert_eq!(
-            found,
-            Some(Found {
-                count: 3,
-                length: 1_500,
-                level: 1
-            })
-        );
-        assert_eq!(
-            l.buffer,
-            [60_000, 60_000, 0, 2, 4, 60_000, 60_000, 60_000, 60_000, 60_000, 60_000]
-        );
+        let mut lent = lent(2);
+        let answer = lent.route(&net, 0, 2, tolerance);
+        assert_eq!(answer, Ok(Some(found(3, 1_500, 1))));
+        assert_eq!(lent.runs(3), [0, 2, 4]);
+        assert!(lent.written(3));
     }
-    let mut l = lent(3);
-    let found = route(
-        &net,
-        0,
-        2,
-        4,
-        &mut l.best,
-        &mut l.previous,
-        &mut l.buffer,
-        0,
-    )
-    .unwrap();
-    assert_eq!(
-        found,
-        Some(Found {
-            count: 2,
-            length: 600,
-            level: 4
-        })
-    );
-    assert_eq!(l.buffer[..3], [0, 4, 60_000]);
+    let mut across = lent(0);
+    let answer = across.route(&net, 0, 2, 4);
+    assert_eq!(answer, Ok(Some(found(2, 600, 4))));
+    assert_eq!(across.runs(2), [0, 4]);
+    assert!(across.written(2));
 
-    let mut l = lent(3);
-    let found = least_stress(&net, 0, 2, &mut l.best, &mut l.previous, &mut l.buffer, 5).unwrap();
-    assert_eq!(
-        found,
-        Some((
-            Found {
-                count: 3,
-                length: 1_500,
-                level: 1
-            },
-            1
-        ))
-    );
-    assert_eq!(l.buffer[4..9], [60_000, 0, 2, 4, 60_000]);
+    let mut least = lent(5);
+    let answer = least.least_stress(&net, 0, 2);
+    assert_eq!(answer, Ok(Some((found(3, 1_500, 1), 1))));
+    assert_eq!(least.runs(3), [0, 2, 4]);
+    assert!(least.written(3));
 
     // Back there is nothing to cross.
-    let mut l = lent(3);
-    let found = least_stress(&net, 2, 0, &mut l.best, &mut l.previous, &mut l.buffer, 0).unwrap();
-    assert_eq!(
-        found,
-        Some((
-            Found {
-                count: 2,
-                length: 600,
-                level: 1
-            },
-            1
-        ))
-    );
+    let answer = lent(0).least_stress(&net, 2, 0);
+    assert_eq!(answer, Ok(Some((found(2, 600, 1), 1))));
 }
 
 /// The paper's two inputs of program levels, as bytes.

@@ -1,25 +1,25 @@
 //! Each refusal, its order among the others, and what it leaves alone.
 
 use twin::gen::{self, damage, damage_kept, Rng, Shape, Spot};
+use twin::lend::{Guarded, Lengths, Lent};
 use twin::oracle::{self, Net};
 use twin::town::{block_town, check, end, head, line, Segment, Town};
-use twin::{is_network, judge_movement, judge_segment, least_stress, read, route, Found};
+use twin::{is_network, judge_movement, judge_segment, read, Found};
 
 /// Reads twice, here and with the oracle, and tests what the output keeps.
 fn answer(text: &[u8], room: usize) -> Result<usize, (u8, usize)> {
-    let mut output: Vec<u8> = (0..room).map(|i| (i * 7 + 3) as u8).collect();
-    let before = output.clone();
-    let answer = read(text, &mut output);
+    let mut output: Guarded<u8> = Guarded::garbage(&mut Rng::new(room as u64), room);
+    let answer = read(text, output.lend());
     match (answer, oracle::read(text, room)) {
         (Ok(written), Ok(kept)) => {
             assert_eq!(written, kept.len());
-            assert_eq!(output[..written], kept);
-            assert_eq!(output[written..], before[written..]);
+            assert_eq!(output.now()[..written], kept);
+            assert!(output.untouched_but(0, written));
             assert!(is_network(&kept));
         }
         (Err(one), Err(other)) => {
             assert_eq!(one, other, "{:?}", String::from_utf8_lossy(text));
-            assert_eq!(output, before);
+            assert!(output.untouched());
         }
         (one, other) => panic!(
             "{one:?} and {other:?} for {:?}",
@@ -153,122 +153,97 @@ fn numbers_of_segments() {
     assert_eq!(full(&lines(&[&head(2, 1_000)])), Err((5, 2)));
 }
 
-#[test]
-fn segment_fields() {
-    let good = path((0, 0), (1, 0))
+/// A segment with a crossing and a turn lane at B, nothing at A.
+fn good_segment() -> Segment {
+    path((0, 0), (1, 0))
         .street(1, 1, 25, 30, 0)
-        .at_b(twin::town::Approach::crossing(2, 3, 25).turning(1, 100, 15));
-    let try_one = |s: Segment| full(&Town::new(2).with(s).text());
-    assert_eq!(try_one(good), Ok(37));
-    let bad = |change: &dyn Fn(&mut Segment)| {
-        let mut s = good;
-        change(&mut s);
-        assert_eq!(try_one(s), Err((4, 2)), "{s:?}");
-        assert!(!is_network(&Town::new(2).with(s).bytes()));
-    };
-    let fine = |change: &dyn Fn(&mut Segment)| {
-        let mut s = good;
-        change(&mut s);
-        assert_eq!(try_one(s), Ok(37), "{s:?}");
-    };
-    bad(&|s| s.a.node = 2);
-    bad(&|s| s.b.node = 2);
-    bad(&|s| s.a.node = 256);
-    bad(&|s| s.a.leg = 8);
-    bad(&|s| s.b.leg = 8);
-    fine(&|s| s.b.leg = 7);
-    for length in [0, 52_801, 65_535] {
-        bad(&|s| s.length = length);
+        .at_b(twin::town::Approach::crossing(2, 3, 25).turning(1, 100, 15))
+}
+
+/// Whether a town of this one segment is accepted; if not, the number is 4,
+/// and its bytes are no network.
+fn accepted(segment: Segment) -> bool {
+    let town = Town::new(2).with(segment);
+    let answer = full(&town.text());
+    assert!(matches!(answer, Ok(37) | Err((4, 2))), "{segment:?}");
+    assert_eq!(is_network(&town.bytes()), answer.is_ok());
+    answer.is_ok()
+}
+
+/// Sets a field to each number, and asks which are accepted.
+fn field<T: Copy + std::fmt::Debug>(
+    numbers: impl IntoIterator<Item = T>,
+    set: impl Fn(&mut Segment, T),
+    good: impl Fn(T) -> bool,
+) {
+    for number in numbers {
+        let mut segment = good_segment();
+        set(&mut segment, number);
+        assert_eq!(accepted(segment), good(number), "{number:?} in {segment:?}");
     }
-    for length in [1, 255, 256, 52_800] {
-        fine(&|s| s.length = length);
-    }
-    for form in 4..=255 {
-        bad(&|s| s.form = form);
-    }
-    bad(&|s| s.form = 0); // reach 30
-    bad(&|s| s.form = 3);
-    fine(&|s| s.form = 2);
-    for ways in 0..=255 {
-        if (1..=3).contains(&ways) {
-            fine(&|s| s.ways = ways)
-        } else {
-            bad(&|s| s.ways = ways)
-        }
-    }
-    for n in 0..=255 {
-        if (1..=12).contains(&n) {
-            fine(&|s| s.lanes = n)
-        } else {
-            bad(&|s| s.lanes = n)
-        }
-        if (5..=85).contains(&n) {
-            fine(&|s| s.speed = n)
-        } else {
-            bad(&|s| s.speed = n)
-        }
-        if n <= 60 {
-            fine(&|s| s.reach = n)
-        } else {
-            bad(&|s| s.reach = n)
-        }
-        if n <= 15 {
-            fine(&|s| s.marks = n)
-        } else {
-            bad(&|s| s.marks = n)
-        }
-        if (2..=4).contains(&n) {
-            fine(&|s| s.at_b.control = n)
-        } else {
-            bad(&|s| s.at_b.control = n)
-        }
-        if (1..=12).contains(&n) {
-            fine(&|s| s.at_b.lanes = n)
-        } else {
-            bad(&|s| s.at_b.lanes = n)
-        }
-        if (5..=85).contains(&n) {
-            fine(&|s| s.at_b.speed = n)
-        } else {
-            bad(&|s| s.at_b.speed = n)
-        }
-        if (1..=3).contains(&n) {
-            fine(&|s| s.at_b.turn = n)
-        } else {
-            bad(&|s| s.at_b.turn = n)
-        }
-        if (5..=85).contains(&n) {
-            fine(&|s| s.at_b.turn_speed = n)
-        } else {
-            bad(&|s| s.at_b.turn_speed = n)
-        }
-        // The approach at A crosses nothing.
-        if n <= 1 {
-            fine(&|s| s.at_a.control = n)
-        } else {
-            bad(&|s| s.at_a.control = n)
-        }
-        if n > 0 {
-            bad(&|s| s.at_a.lanes = n);
-            bad(&|s| s.at_a.speed = n);
-            bad(&|s| s.at_a.turn = n);
-            bad(&|s| s.at_a.turn_length = u16::from(n));
-            bad(&|s| s.at_a.turn_length = u16::from(n) << 8);
-            bad(&|s| s.at_a.turn_speed = n);
-        }
-    }
-    for length in [1, 255, 256, 2_000] {
-        fine(&|s| s.at_b.turn_length = length);
-    }
-    for length in [0, 2_001, 65_535] {
-        bad(&|s| s.at_b.turn_length = length);
-    }
+}
+
+#[test]
+fn fields_of_the_ends() {
+    // The ends stay at different nodes.
+    field([0, 2, 255, 256, 65_535], |s, n| s.a.node = n, |n| n < 2);
+    field([1, 2, 255, 256, 65_535], |s, n| s.b.node = n, |n| n < 2);
+    field(0..=255, |s, n| s.a.leg = n, |n| n < 8);
+    field(0..=255, |s, n| s.b.leg = n, |n| n < 8);
+}
+
+#[test]
+fn fields_of_the_street() {
+    let every = 0..=255u8;
+    let lengths = [0, 1, 255, 256, 52_800, 52_801, 65_535];
+    field(lengths, |s, n| s.length = n, |n| (1..=52_800).contains(&n));
+    // With reach 30, forms 0 and 3 are against the rules.
+    field(every.clone(), |s, n| s.form = n, |n| n == 1 || n == 2);
+    field(every.clone(), |s, n| s.ways = n, |n| (1..=3).contains(&n));
+    field(every.clone(), |s, n| s.lanes = n, |n| (1..=12).contains(&n));
+    field(every.clone(), |s, n| s.speed = n, |n| (5..=85).contains(&n));
+    field(every.clone(), |s, n| s.reach = n, |n| n <= 60);
+    field(every, |s, n| s.marks = n, |n| n <= 15);
     // A path has lanes, speed, reach and marks 0.
     let path = path((0, 0), (1, 0));
+    assert!(accepted(path));
     for one in [(1, 0, 0, 0), (0, 5, 0, 0), (0, 0, 1, 0), (0, 0, 0, 1)] {
-        let s = path.street(3, one.0, one.1, one.2, one.3);
-        assert_eq!(try_one(s), Err((4, 2)));
+        assert!(!accepted(path.street(3, one.0, one.1, one.2, one.3)));
     }
+}
+
+#[test]
+fn fields_of_the_approaches() {
+    let every = 0..=255u8;
+    let lanes = |n| (1..=12).contains(&n);
+    let speed = |n| (5..=85).contains(&n);
+    field(
+        every.clone(),
+        |s, n| s.at_b.control = n,
+        |n| (2..=4).contains(&n),
+    );
+    field(every.clone(), |s, n| s.at_b.lanes = n, lanes);
+    field(every.clone(), |s, n| s.at_b.speed = n, speed);
+    field(
+        every.clone(),
+        |s, n| s.at_b.turn = n,
+        |n| (1..=3).contains(&n),
+    );
+    field(every.clone(), |s, n| s.at_b.turn_speed = n, speed);
+    let lengths = [0, 1, 255, 256, 2_000, 2_001, 65_535];
+    field(
+        lengths,
+        |s, n| s.at_b.turn_length = n,
+        |n| (1..=2_000).contains(&n),
+    );
+    // The approach at A crosses nothing and has no turn lane.
+    let zero = |n| n == 0;
+    field(every.clone(), |s, n| s.at_a.control = n, |n| n <= 1);
+    field(every.clone(), |s, n| s.at_a.lanes = n, zero);
+    field(every.clone(), |s, n| s.at_a.speed = n, zero);
+    field(every.clone(), |s, n| s.at_a.turn = n, zero);
+    field(every, |s, n| s.at_a.turn_speed = n, zero);
+    field(lengths, |s, n| s.at_a.turn_length = n, |n| n == 0);
 }
 
 #[test]
@@ -379,19 +354,17 @@ fn kept_bytes() {
 
 /// 8 from every call, whatever else is wrong, and nothing written.
 fn refused_everywhere(bad: &[u8]) {
-    let (mut best, mut previous, mut buffer) = ([1; 4], [2; 4], [3; 4]);
     assert_eq!(judge_segment(bad, 5_000), Err(8));
     assert_eq!(twin::segment_levels(bad).err(), Some(8));
     assert_eq!(judge_movement(bad, 5_000, 0), Err(8));
-    assert_eq!(
-        route(bad, 9_999, 0, 0, &mut best, &mut previous, &mut buffer, 9),
-        Err(8)
-    );
-    assert_eq!(
-        least_stress(bad, 9_999, 0, &mut best, &mut previous, &mut buffer, 9),
-        Err(8)
-    );
-    assert_eq!((best, previous, buffer), ([1; 4], [2; 4], [3; 4]));
+    let lengths = Lengths {
+        place: 9,
+        ..Lengths::exact(4)
+    };
+    let mut lent = Lent::garbage(&mut Rng::new(4), lengths);
+    assert_eq!(lent.route(bad, 9_999, 0, 0), Err(8));
+    assert_eq!(lent.least_stress(bad, 9_999, 0), Err(8));
+    assert!(lent.untouched());
 }
 
 #[test]
@@ -445,24 +418,16 @@ fn refusals_of_the_routes() {
         (0, 2, 4, 6, 6, 6, usize::MAX, 11, 11),
         (1, 1, 4, 6, 6, 7, 2, 11, 11),
     ] {
-        let (mut best, mut previous, mut buffer) =
-            (vec![1; best], vec![2; previous], vec![3; buffer]);
-        let answer = route(
-            &net,
-            from,
-            to,
-            tolerance,
-            &mut best,
-            &mut previous,
-            &mut buffer,
+        let lengths = Lengths {
+            best,
+            previous,
+            buffer,
             place,
-        );
-        assert_eq!(answer, Err(one));
-        let answer = least_stress(&net, from, to, &mut best, &mut previous, &mut buffer, place);
-        assert_eq!(answer, Err(other));
-        assert!(best.iter().all(|&n| n == 1));
-        assert!(previous.iter().all(|&n| n == 2));
-        assert!(buffer.iter().all(|&n| n == 3));
+        };
+        let mut lent = Lent::garbage(&mut Rng::new(6), lengths);
+        assert_eq!(lent.route(&net, from, to, tolerance), Err(one));
+        assert_eq!(lent.least_stress(&net, from, to), Err(other));
+        assert!(lent.untouched());
     }
 }
 
@@ -476,33 +441,31 @@ fn no_segments() {
     };
     assert_eq!(judge_segment(&net, 0), Err(12));
     assert_eq!(judge_movement(&net, 0, 0), Err(12));
-    for length in 0..3 {
-        let mut buffer = vec![3; length];
-        for place in 0..=length {
+    for buffer in 0..3 {
+        let at = |place| {
+            let lengths = Lengths {
+                buffer,
+                place,
+                ..Lengths::exact(0)
+            };
+            Lent::garbage(&mut Rng::new(3), lengths)
+        };
+        for place in 0..=buffer {
+            let mut lent = at(place);
             for tolerance in 1..=4 {
-                let mut go =
-                    |a, b| route(&net, a, b, tolerance, &mut [], &mut [], &mut buffer, place);
-                assert_eq!(go(0, 0), Ok(Some(empty)));
-                assert_eq!(go(1, 1), Ok(Some(empty)));
-                assert_eq!(go(0, 1), Ok(None));
+                assert_eq!(lent.route(&net, 0, 0, tolerance), Ok(Some(empty)));
+                assert_eq!(lent.route(&net, 1, 1, tolerance), Ok(Some(empty)));
+                assert_eq!(lent.route(&net, 0, 1, tolerance), Ok(None));
             }
-            let mut go = |a, b| least_stress(&net, a, b, &mut [], &mut [], &mut buffer, place);
-            assert_eq!(go(0, 0), Ok(Some((empty, 1))));
-            assert_eq!(go(0, 1), Ok(None));
+            assert_eq!(lent.least_stress(&net, 0, 0), Ok(Some((empty, 1))));
+            assert_eq!(lent.least_stress(&net, 0, 1), Ok(None));
+            assert_eq!(lent.route(&net, 0, 2, 1), Err(9));
+            assert!(lent.untouched());
         }
-        assert_eq!(
-            route(&net, 0, 0, 1, &mut [], &mut [], &mut buffer, length + 1),
-            Err(11)
-        );
-        assert_eq!(
-            least_stress(&net, 0, 0, &mut [], &mut [], &mut buffer, length + 1),
-            Err(11)
-        );
-        assert_eq!(
-            route(&net, 0, 2, 1, &mut [], &mut [], &mut buffer, length),
-            Err(9)
-        );
-        assert!(buffer.iter().all(|&n| n == 3));
+        let mut beyond = at(buffer + 1);
+        assert_eq!(beyond.route(&net, 0, 0, 1), Err(11));
+        assert_eq!(beyond.least_stress(&net, 0, 0), Err(11));
+        assert!(beyond.untouched());
     }
 }
 

@@ -1,76 +1,89 @@
 //! The fast calls against the oracle.
 
 use twin::gen::{self, Rng, Shape};
+use twin::lend::{Lengths, Lent};
 use twin::oracle::Net;
 use twin::town::{block_town, end, Approach, Segment, Town};
-use twin::{judge_movement, judge_segment, least_stress, route, segment_levels, Found};
+use twin::{judge_movement, judge_segment, segment_levels, Found};
 
-/// Tests every tolerance and Least stress from one node to some others.
-fn from_node(
-    rng: &mut Rng,
-    net: &[u8],
-    oracle: &Net,
-    movements: &[(usize, usize, u8)],
-    from: usize,
-    goals: &[usize],
-) -> usize {
-    let runs = oracle.runs();
-    let lengths: Vec<Vec<Option<u32>>> = (1..=4)
-        .map(|tolerance| oracle.lengths(movements, from, tolerance))
-        .collect();
-    let mut found_any = 0;
-    for &to in goals {
-        for tolerance in 1..=5u8 {
-            let (more, before, after) = (rng.below(3), rng.below(4), rng.below(4));
-            let mut best: Vec<u32> = (0..runs + more).map(|_| rng.bits() as u32).collect();
-            let mut previous: Vec<u32> = (0..runs + more / 2).map(|_| rng.bits() as u32).collect();
-            let filled: Vec<u16> = (0..before + runs + after)
-                .map(|_| rng.bits() as u16)
-                .collect();
-            let mut buffer = filled.clone();
-            let (answer, within) = if tolerance <= 4 {
-                let answer = route(
-                    net,
-                    from,
-                    to,
-                    tolerance,
-                    &mut best,
-                    &mut previous,
-                    &mut buffer,
-                    before,
-                );
-                (answer.expect("no refusal"), tolerance)
-            } else {
-                let least = (1..=4).find(|t| lengths[t - 1][to].is_some());
-                let answer =
-                    least_stress(net, from, to, &mut best, &mut previous, &mut buffer, before)
-                        .expect("no refusal");
-                assert_eq!(answer.map(|(_, t)| usize::from(t)), least);
-                (answer.map(|(found, _)| found), least.unwrap_or(4) as u8)
-            };
-            assert_eq!(
-                answer.map(|found| found.length),
-                lengths[usize::from(within) - 1][to]
-            );
-            match answer {
-                None => assert_eq!(buffer, filled),
-                Some(Found {
-                    count,
-                    length,
-                    level,
-                }) => {
-                    let list = &buffer[before..before + count];
-                    oracle
-                        .check_route(from, to, within, list, count, length, level)
-                        .unwrap();
-                    assert_eq!(buffer[..before], filled[..before]);
-                    assert_eq!(buffer[before + count..], filled[before + count..]);
-                    found_any += usize::from(count > 0);
-                }
-            }
+/// A town under test: its bytes, what the oracle makes of them, and all of its
+/// movements.
+struct Subject {
+    net: Vec<u8>,
+    oracle: Net,
+    movements: Vec<(usize, usize, u8)>,
+}
+
+impl Subject {
+    fn new(net: Vec<u8>) -> Subject {
+        let oracle = Net::parse(&net).expect("a network");
+        let movements = oracle.movements();
+        Subject {
+            net,
+            oracle,
+            movements,
         }
     }
-    found_any
+
+    /// Tests every tolerance and Least stress from one node to some others;
+    /// gives the number of routes that are not empty.
+    fn ways_from(&self, rng: &mut Rng, from: usize, goals: &[usize]) -> usize {
+        let lengths: Vec<Vec<Option<u32>>> = (1..=4)
+            .map(|tolerance| self.oracle.lengths(&self.movements, from, tolerance))
+            .collect();
+        let mut ridden = 0;
+        for &to in goals {
+            let lengths: Vec<Option<u32>> = lengths.iter().map(|nodes| nodes[to]).collect();
+            for tolerance in 1..=4 {
+                let mut lent = self.lent(rng);
+                let answer = lent.route(&self.net, from, to, tolerance);
+                let answer = answer.expect("no refusal");
+                let length = lengths[usize::from(tolerance) - 1];
+                ridden += self.check(&lent, (from, to, tolerance), answer, length);
+            }
+            let mut lent = self.lent(rng);
+            let answer = lent.least_stress(&self.net, from, to);
+            let answer = answer.expect("no refusal");
+            let least = (1..).zip(&lengths).find(|(_, length)| length.is_some());
+            let (least, length) = least.map_or((None, None), |(t, length)| (Some(t), *length));
+            assert_eq!(answer.map(|(_, tolerance)| tolerance), least);
+            let found = answer.map(|(found, _)| found);
+            ridden += self.check(&lent, (from, to, least.unwrap_or(4)), found, length);
+        }
+        ridden
+    }
+
+    /// Garbage, a little more than is needed, from some place on.
+    fn lent(&self, rng: &mut Rng) -> Lent {
+        let (runs, place) = (self.oracle.runs(), rng.below(4));
+        let lengths = Lengths {
+            best: runs + rng.below(3),
+            previous: runs + rng.below(2),
+            buffer: place + runs + rng.below(4),
+            place,
+        };
+        Lent::garbage(rng, lengths)
+    }
+
+    /// Tests an answer and what was written; 1 for a route that is not empty.
+    fn check(
+        &self,
+        lent: &Lent,
+        (from, to, within): (usize, usize, u8),
+        answer: Option<Found>,
+        length: Option<u32>,
+    ) -> usize {
+        assert_eq!(answer.map(|found| found.length), length);
+        let count = answer.map_or(0, |found| found.count);
+        assert!(lent.written(count));
+        if let Some(found) = answer {
+            let (runs, oracle) = (lent.runs(count), &self.oracle);
+            oracle
+                .check_route(from, to, within, runs, count, found.length, found.level)
+                .unwrap();
+        }
+        usize::from(count > 0)
+    }
 }
 
 /// Some thousands of small towns, every pair of nodes in the smallest; as many
@@ -86,23 +99,17 @@ fn small_towns() {
     for seed in 0..towns {
         let shape = Shape::ALL[seed as usize % Shape::ALL.len()];
         let segments = rng.range(0, 14);
-        let net = gen::town(shape, seed, segments).bytes();
-        let oracle = Net::parse(&net).expect("a network");
-        let movements = oracle.movements();
-        let goals: Vec<usize> = if oracle.nodes() <= 8 {
-            (0..oracle.nodes()).collect()
+        let subject = Subject::new(gen::town(shape, seed, segments).bytes());
+        let nodes = subject.oracle.nodes();
+        let goals: Vec<usize> = if nodes <= 8 {
+            (0..nodes).collect()
         } else {
-            let streets = if oracle.segments() == 0 {
-                vec![]
-            } else {
-                ends(&net)
-            };
-            let mut goals = vec![0, oracle.nodes() - 1];
-            goals.extend(streets.into_iter().take(8));
+            let mut goals = vec![0, nodes - 1];
+            goals.extend(ends(&subject.net).into_iter().take(8));
             goals
         };
         for &from in goals.iter().take(4) {
-            found += from_node(&mut rng, &net, &oracle, &movements, from, &goals);
+            found += subject.ways_from(&mut rng, from, &goals);
         }
     }
     assert!(found > 7 * towns as usize, "{found}");
@@ -124,14 +131,12 @@ fn middle_towns() {
     for seed in 0..130 {
         let shape = Shape::ALL[seed as usize % Shape::ALL.len()];
         let segments = rng.range(60, 160);
-        let net = gen::town(shape, 50_000 + seed, segments).bytes();
-        let oracle = Net::parse(&net).expect("a network");
-        let movements = oracle.movements();
-        let nodes = oracle.nodes();
+        let subject = Subject::new(gen::town(shape, 50_000 + seed, segments).bytes());
+        let nodes = subject.oracle.nodes();
         for _ in 0..3 {
             let goals: Vec<usize> = (0..12).map(|_| rng.below(nodes)).collect();
             let from = rng.below(nodes);
-            from_node(&mut rng, &net, &oracle, &movements, from, &goals);
+            subject.ways_from(&mut rng, from, &goals);
         }
     }
 }
@@ -140,13 +145,11 @@ fn middle_towns() {
 fn full_towns() {
     let mut rng = Rng::new(3);
     for (i, shape) in Shape::ALL.into_iter().enumerate() {
-        let net = gen::town(shape, 90_000 + i as u64, 1_000).bytes();
-        let oracle = Net::parse(&net).expect("a network");
-        let movements = oracle.movements();
-        let nodes = oracle.nodes();
+        let subject = Subject::new(gen::town(shape, 90_000 + i as u64, 1_000).bytes());
+        let nodes = subject.oracle.nodes();
         let goals: Vec<usize> = (0..20).map(|_| rng.below(nodes)).collect();
         let from = rng.below(nodes);
-        from_node(&mut rng, &net, &oracle, &movements, from, &goals);
+        subject.ways_from(&mut rng, from, &goals);
     }
 }
 
@@ -212,21 +215,10 @@ fn shapes() {
 }
 
 fn go(net: &[u8], from: usize, to: usize, tolerance: u8) -> Option<(Found, Vec<u16>)> {
-    let runs = 2 * (net.len() - 7) / 30;
-    let mut buffer = vec![0; runs];
-    let found = route(
-        net,
-        from,
-        to,
-        tolerance,
-        &mut vec![0; runs],
-        &mut vec![0; runs],
-        &mut buffer,
-        0,
-    )
-    .expect("no refusal")?;
-    buffer.truncate(found.count);
-    Some((found, buffer))
+    let mut lent = Lent::exact(2 * (net.len() - 7) / 30);
+    let answer = lent.route(net, from, to, tolerance);
+    let found = answer.expect("no refusal")?;
+    Some((found, lent.runs(found.count).to_vec()))
 }
 
 #[test]
@@ -240,10 +232,10 @@ fn from_a_node_to_itself() {
                 level: 1,
             };
             assert_eq!(go(&net, node, node, tolerance), Some((empty, vec![])));
-            let (mut best, mut previous, mut buffer) = ([9; 6], [9; 6], [9; 8]);
-            let answer = least_stress(&net, node, node, &mut best, &mut previous, &mut buffer, 2);
+            let mut lent = Lent::exact(6);
+            let answer = lent.least_stress(&net, node, node);
             assert_eq!(answer, Ok(Some((empty, 1))));
-            assert_eq!(buffer, [9; 8]);
+            assert!(lent.written(0));
         }
     }
 }

@@ -1,26 +1,14 @@
 //! `town-levels` prints what program `levels` must print for its input.
 
 use std::fmt::Write as _;
-use std::io::{Read, Write};
 use std::process::ExitCode;
+use twin::program;
 
 /// At most so many bytes of standard input are judged.
 const MOST: u64 = 65_536;
 
 fn main() -> ExitCode {
-    let mut text = Vec::new();
-    if std::io::stdin()
-        .lock()
-        .take(MOST)
-        .read_to_end(&mut text)
-        .is_err()
-    {
-        return ExitCode::FAILURE;
-    }
-    match std::io::stdout().write_all(answer(&text).as_bytes()) {
-        Ok(()) => ExitCode::SUCCESS,
-        Err(_) => ExitCode::FAILURE,
-    }
+    program::answer(program::input(MOST).map(|text| answer(&text).into_bytes()))
 }
 
 fn answer(text: &[u8]) -> String {

@@ -6,15 +6,28 @@ use std::fmt::Write as _;
 use std::fs;
 use std::io;
 use std::path::Path;
+use std::process::ExitCode;
 use twin::gen::{self, damage, Rng, Shape, Spot};
+use twin::lend::Lent;
 use twin::oracle::{self, Net};
+use twin::program;
 use twin::town::{block_town, check, end, head, line, Approach, Segment, Town, CENTRELINE};
+use twin::Found;
 
-fn main() -> io::Result<()> {
-    let directory = std::env::args().nth(1).unwrap_or_else(|| "vectors".into());
-    let directory = Path::new(&directory);
-    levels(&directory.join("levels"))?;
-    routes(&directory.join("routes"))
+fn main() -> ExitCode {
+    let [directory] = &program::words()[..] else {
+        return program::usage("town-vectors DIRECTORY");
+    };
+    let directory = Path::new(directory);
+    let levels = levels(&directory.join("levels"));
+    let written = levels.and_then(|()| routes(&directory.join("routes")));
+    match written {
+        Ok(()) => ExitCode::SUCCESS,
+        Err(error) => {
+            eprintln!("town-vectors: {error}");
+            ExitCode::FAILURE
+        }
+    }
 }
 
 /// What the calls print for program levels.
@@ -29,200 +42,161 @@ fn through_the_calls(input: &[u8]) -> String {
     }
 }
 
-fn levels(directory: &Path) -> io::Result<()> {
-    fs::create_dir_all(directory)?;
-    let put = |name: &str, input: &[u8], expected: Option<&str>| -> io::Result<()> {
+/// Where inputs of program levels and their outputs are written.
+struct Levels<'d>(&'d Path);
+
+impl Levels<'_> {
+    /// An input, with the oracle's answer.
+    fn put(&self, name: &str, input: &[u8]) -> io::Result<()> {
         let answer = oracle::levels(input);
         assert_eq!(answer, through_the_calls(input), "{name}");
-        if let Some(expected) = expected {
-            assert_eq!(answer, expected, "{name}");
-        }
-        fs::write(directory.join(format!("{name}.in")), input)?;
-        fs::write(directory.join(format!("{name}.out")), answer)
-    };
+        fs::write(self.0.join(format!("{name}.in")), input)?;
+        fs::write(self.0.join(format!("{name}.out")), answer)
+    }
 
-    // The two printed inputs.
-    let refused =
-        b"010100020001FB\n0200000200010601f400030219000100000000000000000000000000000000E1 \n";
-    put("printed-refused", refused, Some("refused 1 2\n"))?;
+    /// An input that must be refused, with the number and at the line.
+    fn refused(&self, name: &str, input: &[u8], number: u8, line: usize) -> io::Result<()> {
+        let expected = format!("refused {number} {line}\n");
+        assert_eq!(oracle::levels(input), expected, "{name}");
+        self.put(name, input)
+    }
+}
+
+fn levels(directory: &Path) -> io::Result<()> {
+    fs::create_dir_all(directory)?;
+    let out = Levels(directory);
     let printed = Town::new(2)
         .with(Segment::path(end(0, 2), end(1, 6), 500).street(0, 2, 25, 0, CENTRELINE))
         .text();
-    put("printed-accepted", &printed, Some("0 2 5\n"))?;
+    assert_eq!(oracle::levels(&printed), "0 2 5\n");
+    out.put("printed-accepted", &printed)?;
+    let refused =
+        b"010100020001FB\n0200000200010601f400030219000100000000000000000000000000000000E1 \n";
+    out.refused("printed-refused", refused, 1, 2)?;
+    ends_of_texts(&out, &printed)?;
+    order_within_a_line(&out)?;
+    each_number(&out)?;
+    let thousand = whole_towns(&out)?;
+    round_the_limit(&out, &thousand)
+}
 
-    // Ends of a text.
-    put("empty", b"", Some("refused 3 1\n"))?;
-    put("only-0a", b"\n", Some("refused 1 1\n"))?;
-    put("s0-n1", &Town::new(1).text(), Some(""))?;
-    put("s0-n1000", &Town::new(1_000).text(), Some(""))?;
-    put(
-        "s0-no-final-0a",
-        &Town::new(1).text()[..14],
-        Some("refused 1 1\n"),
-    )?;
-    put(
-        "no-final-0a",
-        &printed[..printed.len() - 1],
-        Some("refused 1 2\n"),
-    )?;
-    put(
-        "two-final-0a",
-        &[&printed[..], b"\n"].concat(),
-        Some("refused 1 3\n"),
-    )?;
-    put(
-        "byte-after",
-        &[&printed[..], b"0"].concat(),
-        Some("refused 1 3\n"),
-    )?;
-    put(
-        "zero-byte-line-after",
-        &[&printed[..], b"00\n"].concat(),
-        Some("refused 3 3\n"),
-    )?;
-    put(
-        "head-after",
-        &[&printed[..], &printed[..15]].concat(),
-        Some("refused 3 3\n"),
-    )?;
-    put(
-        "segment-after",
-        &[&printed[..], &printed[15..]].concat(),
-        Some("refused 5 3\n"),
-    )?;
-    put("head-only", &printed[..15], Some("refused 5 2\n"))?;
-    put(
-        "carriage-returns",
-        &carriage_returns(&printed),
-        Some("refused 1 1\n"),
-    )?;
+fn ends_of_texts(out: &Levels<'_>, printed: &[u8]) -> io::Result<()> {
+    let and = |more: &[u8]| [printed, more].concat();
+    let empty = Town::new(1).text();
+    out.put("s0-n1", &empty)?;
+    out.put("s0-n1000", &Town::new(1_000).text())?;
+    for (name, input, number, line) in [
+        ("empty", Vec::new(), 3, 1),
+        ("only-0a", b"\n".to_vec(), 1, 1),
+        ("s0-no-final-0a", empty[..14].to_vec(), 1, 1),
+        ("no-final-0a", printed[..printed.len() - 1].to_vec(), 1, 2),
+        ("two-final-0a", and(b"\n"), 1, 3),
+        ("byte-after", and(b"0"), 1, 3),
+        ("zero-byte-line-after", and(b"00\n"), 3, 3),
+        ("head-after", and(&printed[..15]), 3, 3),
+        ("segment-after", and(&printed[15..]), 5, 3),
+        ("head-only", printed[..15].to_vec(), 5, 2),
+        ("carriage-returns", carriage_returns(printed), 1, 1),
+    ] {
+        out.refused(name, &input, number, line)?;
+    }
+    Ok(())
+}
 
-    // Order within a line: each line has the lower-ranked faults as well.
+/// Each line has the lower-ranked faults as well.
+fn order_within_a_line(out: &Levels<'_>) -> io::Result<()> {
     let first = Segment::path(end(0, 0), end(1, 0), 100).frame();
+    let with =
+        |segments: u16, last: &[u8]| [line(&head(2, segments)), line(&first), line(last)].concat();
+    let own = Segment::path(end(1, 5), end(1, 5), 9).frame();
+    out.refused("order-6-own", &with(2, &own), 6, 3)?;
     let mut bad = Segment::path(end(0, 0), end(1, 1), 100);
-    let with = |head: Vec<u8>, last: &[u8]| [line(&head), line(&first), line(last)].concat();
-    put(
-        "order-6",
-        &with(head(2, 2), &bad.frame()),
-        Some("refused 6 3\n"),
-    )?;
-    put(
-        "order-6-own",
-        &with(head(2, 2), &Segment::path(end(1, 5), end(1, 5), 9).frame()),
-        Some("refused 6 3\n"),
-    )?;
+    out.refused("order-6", &with(2, &bad.frame()), 6, 3)?;
     bad.speed = 200;
-    put(
-        "order-4-6",
-        &with(head(2, 2), &bad.frame()),
-        Some("refused 4 3\n"),
-    )?;
-    put(
-        "order-5-4-6",
-        &with(head(2, 1), &bad.frame()),
-        Some("refused 5 3\n"),
-    )?;
+    out.refused("order-4-6", &with(2, &bad.frame()), 4, 3)?;
+    out.refused("order-5-4-6", &with(1, &bad.frame()), 5, 3)?;
     let mut frame = bad.frame();
     frame[0] = 1;
     gen::seal(&mut frame);
-    put(
-        "order-3-5-4-6",
-        &with(head(2, 1), &frame),
-        Some("refused 3 3\n"),
-    )?;
+    out.refused("order-3-5-4-6", &with(1, &frame), 3, 3)?;
     frame[29] ^= 0x40;
-    put(
-        "order-2-3-5-4-6",
-        &with(head(2, 1), &frame),
-        Some("refused 2 3\n"),
-    )?;
-    let mut text = with(head(2, 1), &frame);
+    let mut text = with(1, &frame);
+    out.refused("order-2-3-5-4-6", &text, 2, 3)?;
     let at = text.len() - 10;
     text[at] = b'g';
-    put("order-1-2-3-5-4-6", &text, Some("refused 1 3\n"))?;
+    out.refused("order-1-2-3-5-4-6", &text, 1, 3)?;
     let mut edition = vec![1, 2, 0, 0, 9, 9];
     edition.push(check(&edition));
-    put("edition", &line(&edition), Some("refused 4 1\n"))?;
+    out.refused("edition", &line(&edition), 4, 1)
+}
 
-    // Each number a program can meet, at the first, a middle, the last line.
+/// Each number a program can meet, at the first, a middle, the last line.
+fn each_number(out: &Levels<'_>) -> io::Result<()> {
     let mut rng = Rng::new(2_024);
     let net = gen::town(Shape::Grid, 3, 12).bytes();
     for number in 1..=6 {
-        for (spot, name) in Spot::ALL.into_iter().zip(["first", "middle", "last"]) {
+        for (spot, place) in Spot::ALL.into_iter().zip(["first", "middle", "last"]) {
             for turn in 0..4 {
-                if let Some(d) = damage(&mut rng, &net, number, spot) {
-                    let (number, line) = d.refusal;
-                    let expected = format!("refused {number} {line}\n");
-                    put(
-                        &format!("refusal-{number}-{name}-{turn}"),
-                        &d.text,
-                        Some(&expected),
-                    )?;
+                if let Some(damaged) = damage(&mut rng, &net, number, spot) {
+                    let name = format!("refusal-{number}-{place}-{turn}");
+                    let (number, line) = damaged.refusal;
+                    out.refused(&name, &damaged.text, number, line)?;
                 }
             }
         }
     }
+    Ok(())
+}
 
-    // Towns of every shape, and one of 1,000 segments.
+/// Towns of every shape, and of 1,000 segments; gives the text of one of those.
+fn whole_towns(out: &Levels<'_>) -> io::Result<Vec<u8>> {
     for shape in Shape::ALL {
-        put(
-            &format!("town-{}", shape.name()),
-            &gen::town(shape, 77, 60).text(),
-            None,
-        )?;
+        let name = format!("town-{}", shape.name());
+        out.put(&name, &gen::town(shape, 77, 60).text())?;
     }
     let thousand = gen::town(Shape::Wild, 1, 1_000).text();
     assert_eq!(thousand.len(), 61_015);
-    put("thousand", &thousand, None)?;
-    put(
-        "thousand-grid",
-        &gen::town(Shape::Grid, 5, 1_000).text(),
-        None,
-    )?;
+    out.put("thousand", &thousand)?;
+    out.put("thousand-grid", &gen::town(Shape::Grid, 5, 1_000).text())?;
     let mut damaged = thousand.clone();
     damaged[61_000] ^= 1;
-    put(
-        "thousand-last-line-check",
-        &damaged,
-        Some("refused 2 1001\n"),
-    )?;
+    out.refused("thousand-last-line-check", &damaged, 2, 1_001)?;
+    Ok(thousand)
+}
 
-    // Round 65,536 bytes. A line of zeros passes 1 and 2 and fails 3, unless
-    // the cut takes its 0A; then it fails 1.
-    let zeros = |count: usize| vec![b'0'; count];
-    let exact = [&thousand[..], &zeros(4_520), b"\n"].concat();
+/// Round 65,536 bytes. A line of zeros passes 1 and 2 and fails 3, unless the
+/// cut takes its 0A; then it fails 1.
+fn round_the_limit(out: &Levels<'_>, thousand: &[u8]) -> io::Result<()> {
+    let zeros =
+        |before: &[u8], count: usize, after: &[u8]| [before, &vec![b'0'; count], after].concat();
+    let exact = zeros(thousand, 4_520, b"\n");
     assert_eq!(exact.len(), 65_536);
-    put("exact-65536", &exact, Some("refused 3 1002\n"))?;
-    put(
-        "longer-garbage-after",
-        &[&exact[..], b"garbage\n0", &zeros(3_000)].concat(),
-        Some("refused 3 1002\n"),
-    )?;
-    put(
-        "longer-cut-in-line",
-        &[&thousand[..], &zeros(4_522), b"\n"].concat(),
-        Some("refused 1 1002\n"),
-    )?;
+    let garbage = zeros(&[&exact[..], b"garbage\n0"].concat(), 3_000, b"");
     let mut fewer = gen::town(Shape::Tree, 1, 999);
     fewer.segments.truncate(999);
     let fewer = fewer.text();
     assert_eq!(fewer.len() + 4_582, 65_536);
-    put(
-        "longer-cut-before-0a",
-        &[&fewer[..], &zeros(4_582), b"\n"].concat(),
-        Some("refused 1 1001\n"),
-    )?;
-    put("exact-65536-no-0a", &zeros(65_536), Some("refused 1 1\n"))?;
-    put(
-        "longer-one-line",
-        &[&zeros(65_536)[..], b"\n"].concat(),
-        Some("refused 1 1\n"),
-    )?;
-    put(
-        "one-line-65535",
-        &[&zeros(65_534)[..], b"\n"].concat(),
-        Some("refused 3 1\n"),
-    )?;
+    for (name, input, number, line) in [
+        (
+            "longer-cut-in-line",
+            zeros(thousand, 4_522, b"\n"),
+            1,
+            1_002,
+        ),
+        ("longer-garbage-after", garbage, 3, 1_002),
+        (
+            "longer-cut-before-0a",
+            zeros(&fewer, 4_582, b"\n"),
+            1,
+            1_001,
+        ),
+        ("exact-65536-no-0a", zeros(b"", 65_536, b""), 1, 1),
+        ("longer-one-line", zeros(b"", 65_536, b"\n"), 1, 1),
+        ("one-line-65535", zeros(b"", 65_534, b"\n"), 3, 1),
+        ("exact-65536", exact, 3, 1_002),
+    ] {
+        out.refused(name, &input, number, line)?;
+    }
     Ok(())
 }
 
@@ -232,74 +206,29 @@ fn carriage_returns(text: &[u8]) -> Vec<u8> {
         .collect()
 }
 
+/// Writes a town's text, the answers for some pairs of its nodes, and for a
+/// small town the routes that are the only shortest ones.
+fn put_town(directory: &Path, name: &str, town: &Town, pairs: &[(usize, usize)]) -> io::Result<()> {
+    let file = |kind: &str| directory.join(format!("{name}.{kind}"));
+    fs::write(file("net"), town.text())?;
+    fs::write(file("expect"), expectations(town, pairs))?;
+    if town.segments.len() < 10 {
+        fs::write(file("unique"), unique(town, pairs))?;
+    }
+    Ok(())
+}
+
+/// Every pair of a town's nodes.
+fn everywhere(town: &Town) -> Vec<(usize, usize)> {
+    let nodes = usize::from(town.nodes);
+    (0..nodes)
+        .flat_map(|a| (0..nodes).map(move |b| (a, b)))
+        .collect()
+}
+
 fn routes(directory: &Path) -> io::Result<()> {
     fs::create_dir_all(directory)?;
-    let everywhere = |town: &Town| {
-        let nodes = usize::from(town.nodes);
-        let pairs: Vec<(usize, usize)> = (0..nodes)
-            .flat_map(|a| (0..nodes).map(move |b| (a, b)))
-            .collect();
-        pairs
-    };
-    let put = |name: &str, town: &Town, pairs: &[(usize, usize)]| -> io::Result<()> {
-        fs::write(directory.join(format!("{name}.net")), town.text())?;
-        fs::write(
-            directory.join(format!("{name}.expect")),
-            expectations(town, pairs),
-        )?;
-        if town.segments.len() < 10 {
-            fs::write(
-                directory.join(format!("{name}.unique")),
-                unique(town, pairs),
-            )?;
-        }
-        Ok(())
-    };
-
-    let block = block_town();
-    let mut pairs = everywhere(&block);
-    pairs.extend([(3, 0), (0, 3), (65_535, 65_535)]);
-    put("block", &block, &pairs)?;
-
-    let mut one_way = block_town();
-    one_way.segments[1].ways = 1;
-    put("one-way-loop", &one_way, &everywhere(&one_way))?;
-    one_way.segments[1].ways = 2;
-    put("one-way-loop-against", &one_way, &everywhere(&one_way))?;
-
-    // Round a block of three streets, twice on the way, a mild turn lane in
-    // the second: node 1, then node 4, each come twice.
-    let hard = Approach::crossing(2, 6, 40);
-    let twice = Town::new(8)
-        .with(Segment::path(end(0, 0), end(1, 4), 250).at_b(hard))
-        .with(Segment::path(end(1, 2), end(2, 6), 200))
-        .with(Segment::path(end(2, 4), end(3, 0), 210).at_b(Approach::default().turning(3, 75, 15)))
-        .with(Segment::path(end(3, 6), end(1, 6), 220))
-        .with(Segment::path(end(1, 0), end(4, 4), 300).at_b(hard.turning(1, 100, 15)))
-        .with(Segment::path(end(4, 3), end(5, 5), 205))
-        .with(Segment::path(end(5, 3), end(6, 7), 215))
-        .with(Segment::path(end(4, 7), end(6, 1), 225).ways(2))
-        .with(Segment::path(end(4, 0), end(7, 2), 310));
-    put("twice", &twice, &everywhere(&twice))?;
-    let lengths = Net::parse(&twice.bytes()).map(|n| (n.least(0, 4), n.least(0, 7)));
-    assert_eq!(lengths, Some((Some((1, 1_180)), Some((2, 2_135)))));
-
-    // Two parts, and a street that may only be ridden the other way.
-    let none = Town::new(5)
-        .with(Segment::path(end(0, 0), end(1, 0), 100))
-        .with(Segment::path(end(1, 1), end(2, 0), 100).ways(2))
-        .with(Segment::path(end(3, 0), end(4, 0), 100).street(0, 6, 45, 0, 0));
-    put("none", &none, &everywhere(&none))?;
-
-    put("single-node", &Town::new(1), &[(0, 0), (0, 1), (1, 0)])?;
-    put(
-        "no-segments",
-        &Town::new(1_000),
-        &[(0, 0), (999, 999), (0, 999), (1_000, 0)],
-    )?;
-    let loops = gen::town(Shape::Single, 4, 4);
-    put("single-node-loops", &loops, &[(0, 0), (0, 1)])?;
-
+    small_towns(directory)?;
     for (name, shape, seed) in [
         ("thousand-grid", Shape::Grid, 11),
         ("thousand-maze", Shape::Maze, 12),
@@ -309,7 +238,7 @@ fn routes(directory: &Path) -> io::Result<()> {
         ("thousand-wild", Shape::Wild, 14),
     ] {
         let town = gen::town(shape, seed, 1_000);
-        put(name, &town, &two_dozen(&town))?;
+        put_town(directory, name, &town, &two_dozen(&town))?;
     }
     for (i, shape) in Shape::ALL.into_iter().enumerate() {
         let town = gen::town(shape, 300 + i as u64, 25);
@@ -318,9 +247,60 @@ fn routes(directory: &Path) -> io::Result<()> {
         let pairs: Vec<_> = (0..30)
             .map(|_| (rng.below(nodes), rng.below(nodes)))
             .collect();
-        put(&format!("small-{}", shape.name()), &town, &pairs)?;
+        put_town(directory, &format!("small-{}", shape.name()), &town, &pairs)?;
     }
     Ok(())
+}
+
+/// Towns laid out by hand.
+fn small_towns(directory: &Path) -> io::Result<()> {
+    let put = |name: &str, town: &Town, more: &[(usize, usize)]| {
+        put_town(directory, name, town, &[&everywhere(town), more].concat())
+    };
+    let block = block_town();
+    put("block", &block, &[(3, 0), (0, 3), (65_535, 65_535)])?;
+    let mut one_way = block_town();
+    one_way.segments[1].ways = 1;
+    put("one-way-loop", &one_way, &[])?;
+    one_way.segments[1].ways = 2;
+    put("one-way-loop-against", &one_way, &[])?;
+
+    let twice = twice();
+    put("twice", &twice, &[])?;
+    let lengths = Net::parse(&twice.bytes()).map(|n| (n.least(0, 4), n.least(0, 7)));
+    assert_eq!(lengths, Some((Some((1, 1_180)), Some((2, 2_135)))));
+
+    // Two parts, and a street that may only be ridden the other way.
+    let none = Town::new(5)
+        .with(Segment::path(end(0, 0), end(1, 0), 100))
+        .with(Segment::path(end(1, 1), end(2, 0), 100).ways(2))
+        .with(Segment::path(end(3, 0), end(4, 0), 100).street(0, 6, 45, 0, 0));
+    put("none", &none, &[])?;
+
+    put("single-node", &Town::new(1), &[(0, 1), (1, 0)])?;
+    put(
+        "single-node-loops",
+        &gen::town(Shape::Single, 4, 4),
+        &[(0, 1)],
+    )?;
+    let far = [(0, 0), (999, 999), (0, 999), (1_000, 0)];
+    put_town(directory, "no-segments", &Town::new(1_000), &far)
+}
+
+/// Round a block of three streets, twice on the way, a mild turn lane in the
+/// second: node 1, then node 4, each come twice.
+fn twice() -> Town {
+    let hard = Approach::crossing(2, 6, 40);
+    Town::new(8)
+        .with(Segment::path(end(0, 0), end(1, 4), 250).at_b(hard))
+        .with(Segment::path(end(1, 2), end(2, 6), 200))
+        .with(Segment::path(end(2, 4), end(3, 0), 210).at_b(Approach::default().turning(3, 75, 15)))
+        .with(Segment::path(end(3, 6), end(1, 6), 220))
+        .with(Segment::path(end(1, 0), end(4, 4), 300).at_b(hard.turning(1, 100, 15)))
+        .with(Segment::path(end(4, 3), end(5, 5), 205))
+        .with(Segment::path(end(5, 3), end(6, 7), 215))
+        .with(Segment::path(end(4, 7), end(6, 1), 225).ways(2))
+        .with(Segment::path(end(4, 0), end(7, 2), 310))
 }
 
 /// Pairs of nodes, six for each least tolerance where there are as many.
@@ -358,8 +338,6 @@ fn expectations(town: &Town, pairs: &[(usize, usize)]) -> String {
     let net = town.bytes();
     let oracle = Net::parse(&net).expect("a network");
     let movements = oracle.movements();
-    let runs = oracle.runs();
-    let (mut best, mut previous, mut buffer) = (vec![0; runs], vec![0; runs], vec![0; runs]);
     let mut out = String::new();
     let mut known: Option<(usize, Vec<Vec<Option<u32>>>)> = None;
     for &(from, to) in pairs {
@@ -369,61 +347,52 @@ fn expectations(town: &Town, pairs: &[(usize, usize)]) -> String {
             }
             continue;
         }
-        if known.as_ref().is_none_or(|(node, _)| *node != from) {
-            known = Some((
-                from,
-                (1..=4)
-                    .map(|t| oracle.lengths(&movements, from, t))
-                    .collect(),
-            ));
-        }
-        let lengths: Vec<Option<u32>> = match &known {
-            Some((_, lengths)) => lengths.iter().map(|nodes| nodes[to]).collect(),
-            None => Vec::new(),
-        };
-        for (tolerance, length) in (1..).zip(&lengths) {
-            let found = twin::route(
-                &net,
-                from,
-                to,
-                tolerance,
-                &mut best,
-                &mut previous,
-                &mut buffer,
-                0,
-            )
-            .expect("no refusal");
-            assert_eq!(found.map(|f| f.length), *length);
-            if let Some(f) = found {
-                oracle
-                    .check_route(
-                        from,
-                        to,
-                        tolerance,
-                        &buffer[..f.count],
-                        f.count,
-                        f.length,
-                        f.level,
-                    )
-                    .expect("a route");
+        let (_, lengths) = match known.take() {
+            Some(lengths) if lengths.0 == from => known.insert(lengths),
+            _ => {
+                let all = (1..=4).map(|t| oracle.lengths(&movements, from, t));
+                known.insert((from, all.collect()))
             }
-            let answer = length.map_or("none".into(), |length| format!("found {length}"));
-            let _ = writeln!(out, "{from} {to} {tolerance} {answer}");
-        }
-        let least = (1u8..)
-            .zip(&lengths)
-            .find_map(|(t, length)| length.map(|length| (t, length)));
-        let found = twin::least_stress(&net, from, to, &mut best, &mut previous, &mut buffer, 0)
-            .expect("no refusal");
-        assert_eq!(found.map(|(f, t)| (t, f.length)), least);
-        let answer = least.map_or("none".into(), |(t, length)| format!("found {length} {t}"));
-        let _ = writeln!(out, "{from} {to} least {answer}");
+        };
+        let lengths: Vec<Option<u32>> = lengths.iter().map(|nodes| nodes[to]).collect();
+        out += &answers(&net, &oracle, from, to, &lengths);
         if pairs.len() < 20 {
             for tolerance in [0, 5, 255] {
                 let _ = writeln!(out, "{from} {to} {tolerance} refused 10");
             }
         }
     }
+    out
+}
+
+/// The lines of one pair; the calls are asked too, and must agree with the
+/// lengths.
+fn answers(net: &[u8], oracle: &Net, from: usize, to: usize, lengths: &[Option<u32>]) -> String {
+    let mut lent = Lent::exact(oracle.runs());
+    let mut out = String::new();
+    for (tolerance, length) in (1..).zip(lengths) {
+        let found = lent.route(net, from, to, tolerance).expect("no refusal");
+        assert_eq!(found.map(|f| f.length), *length);
+        if let Some(Found {
+            count,
+            length,
+            level,
+        }) = found
+        {
+            oracle
+                .check_route(from, to, tolerance, lent.runs(count), count, length, level)
+                .expect("a route");
+        }
+        let answer = length.map_or("none".into(), |length| format!("found {length}"));
+        let _ = writeln!(out, "{from} {to} {tolerance} {answer}");
+    }
+    let least = (1u8..)
+        .zip(lengths)
+        .find_map(|(t, length)| length.map(|length| (t, length)));
+    let found = lent.least_stress(net, from, to).expect("no refusal");
+    assert_eq!(found.map(|(f, t)| (t, f.length)), least);
+    let answer = least.map_or("none".into(), |(t, length)| format!("found {length} {t}"));
+    let _ = writeln!(out, "{from} {to} least {answer}");
     out
 }
 
@@ -437,23 +406,20 @@ fn unique(town: &Town, pairs: &[(usize, usize)]) -> String {
             let Some(length) = oracle.shortest(from, to, tolerance) else {
                 continue;
             };
-            let mut found = Vec::new();
-            try_all(
+            let mut trial = Trial {
                 town,
-                &oracle,
-                from,
+                oracle: &oracle,
                 to,
                 tolerance,
-                length,
-                &mut Vec::new(),
-                &mut found,
-            );
-            if let [list] = &found[..] {
+                found: Vec::new(),
+            };
+            trial.go_on(from, length, &mut Vec::new());
+            if let [list] = &trial.found[..] {
                 let (length, level) = oracle.follow(from, to, list).expect("a route");
+                let count = list.len();
                 let _ = write!(
                     out,
-                    "{from} {to} {tolerance} found {} {length} {level}",
-                    list.len()
+                    "{from} {to} {tolerance} found {count} {length} {level}"
                 );
                 for run in list {
                     let _ = write!(out, " {run}");
@@ -465,56 +431,53 @@ fn unique(town: &Town, pairs: &[(usize, usize)]) -> String {
     out
 }
 
-/// Lists the routes of `length` feet that begin with `list` and go on from
-/// `node`.
-#[allow(clippy::too_many_arguments)]
-fn try_all(
-    town: &Town,
-    oracle: &Net,
-    node: usize,
+/// All routes to a node within a tolerance.
+struct Trial<'t> {
+    town: &'t Town,
+    oracle: &'t Net,
     to: usize,
     tolerance: u8,
-    length: u32,
-    list: &mut Vec<u16>,
-    found: &mut Vec<Vec<u16>>,
-) {
-    if length == 0 {
-        if node == to {
-            found.push(list.clone());
-        }
-        return;
-    }
-    for run in 0..oracle.runs() {
-        let segment = &town.segments[run / 2];
-        let (leaves, arrives) = if run % 2 == 0 {
-            (segment.a, segment.b)
-        } else {
-            (segment.b, segment.a)
-        };
-        let within = oracle
-            .segment(run / 2)
-            .is_ok_and(|(level, _)| level <= tolerance)
+    found: Vec<Vec<u16>>,
+}
+
+impl Trial<'_> {
+    /// Whether a run is within the tolerance, and the movement onto it from
+    /// the list's last.
+    fn within(&self, list: &[u16], run: usize) -> bool {
+        let low = |level: u8| level <= self.tolerance;
+        let street = self.oracle.segment(run / 2);
+        self.oracle.open(run)
+            && street.is_ok_and(|(level, _)| low(level))
             && list.last().is_none_or(|&before| {
-                oracle
-                    .movement(before.into(), run)
-                    .is_ok_and(|level| level <= tolerance)
-            });
-        if usize::from(leaves.node) != node || !oracle.open(run) || !within {
-            continue;
+                let movement = self.oracle.movement(before.into(), run);
+                movement.is_ok_and(low)
+            })
+    }
+
+    /// Finds the routes that begin with the list and go on from the node for
+    /// `length` feet.
+    fn go_on(&mut self, node: usize, length: u32, list: &mut Vec<u16>) {
+        if length == 0 {
+            if node == self.to {
+                self.found.push(list.clone());
+            }
+            return;
         }
-        if let Some(left) = length.checked_sub(segment.length.into()) {
-            list.push(run as u16);
-            try_all(
-                town,
-                oracle,
-                arrives.node.into(),
-                to,
-                tolerance,
-                left,
-                list,
-                found,
-            );
-            list.pop();
+        for run in 0..self.oracle.runs() {
+            let segment = self.town.segments[run / 2];
+            let (leaves, arrives) = if run % 2 == 0 {
+                (segment.a, segment.b)
+            } else {
+                (segment.b, segment.a)
+            };
+            if usize::from(leaves.node) != node || !self.within(list, run) {
+                continue;
+            }
+            if let Some(left) = length.checked_sub(segment.length.into()) {
+                list.push(run as u16);
+                self.go_on(arrives.node.into(), left, list);
+                list.pop();
+            }
         }
     }
 }

@@ -1,0 +1,180 @@
+/*
+ * Splicereel: bicycle stress levels and least-stress routes on a street
+ * network.
+ *
+ * Link with target/staticlib/libsplicereel_c.a, which `make lib` writes. The
+ * archive needs nothing but memset.
+ *
+ * Every call, on every input that keeps the rules below, ends with an answer
+ * or a refusal. It returns 0 where it answers and the refusal's number
+ * otherwise; what else it has to tell stands in `told`. The calls keep no
+ * pointer and have no state of their own: they may run in many threads at
+ * once. A call takes less than 64 KiB of stack and allocates nothing.
+ *
+ * Rules for what is lent, the only ones:
+ *
+ * - A pointer is not null, also where its length is 0; it then may point
+ *   anywhere, aligned.
+ * - A pointer to 16-bit numbers is aligned for them, and so is one to 32-bit
+ *   numbers. Bytes lie anywhere.
+ * - A length counts elements, not bytes, and that many are there.
+ * - What a call may write (output, best, previous, buffer, told) shares no
+ *   element with anything else that is lent to the same call. `text` and
+ *   `net` are only read.
+ * - `told` has 8 elements.
+ *
+ * What is lent may hold anything beforehand: nothing need be cleared.
+ *
+ * Segments are numbered from 0, in the order of their lines. Run 2s rides
+ * segment s from its A end to its B end, run 2s + 1 from B to A.
+ */
+#ifndef SPLICEREEL_H
+#define SPLICEREEL_H
+
+#include <stddef.h>
+#include <stdint.h>
+
+#ifdef __cplusplus
+extern "C" {
+#endif
+
+/* What a network of edition 01 has at most. */
+enum {
+    SPLICEREEL_MAX_NODES = 1000,
+    SPLICEREEL_MAX_SEGMENTS = 1000,
+    /* Kept bytes, 7 and 30 for each segment: in an output so long, every
+       network fits. */
+    SPLICEREEL_MAX_NETWORK = 30007,
+    /* Runs, two for each segment: scratch and buffer so long serve every
+       network. */
+    SPLICEREEL_MAX_RUNS = 2000,
+    /* Elements of `told`. */
+    SPLICEREEL_TOLD = 8
+};
+
+/* What a call returns. */
+enum splicereel_number {
+    /* The call answers. */
+    SPLICEREEL_ANSWERED = 0,
+
+    /* Read: a line is not whole pairs of uppercase hexadecimal digits ended
+       by byte 0A, or it is empty. */
+    SPLICEREEL_NOT_DIGITS = 1,
+    /* Read: the bytes of a frame do not sum to 0 modulo 256. */
+    SPLICEREEL_WRONG_CHECK = 2,
+    /* Read: the kind or the length of a frame is wrong for its position; an
+       empty text is this at line 1. */
+    SPLICEREEL_WRONG_FRAME = 3,
+    /* Read: a field is against the ranges or rules. */
+    SPLICEREEL_WRONG_FIELD = 4,
+    /* Read: a segment beyond the head's number, or too few, then at the line
+       after the last. */
+    SPLICEREEL_WRONG_COUNT = 5,
+    /* Read: a leg is taken already, by an earlier frame or by the frame's
+       other end. */
+    SPLICEREEL_LEG_TAKEN = 6,
+    /* Read: the output is shorter than the network; with line 1, and before
+       line 2 is looked at. */
+    SPLICEREEL_OUTPUT_TOO_SHORT = 7,
+
+    /* Every other call, and before anything else: the bytes are no network
+       that Read could keep. */
+    SPLICEREEL_NOT_A_NETWORK = 8,
+    /* Route, Least stress: a node is not below the number of nodes. */
+    SPLICEREEL_NO_SUCH_NODE = 9,
+    /* Route: the tolerance is not 1 to 4. */
+    SPLICEREEL_NO_SUCH_TOLERANCE = 10,
+    /* Route, Least stress: a scratch slice is shorter than 2 numbers for each
+       segment, or the place is beyond the buffer's end, or fewer than 2
+       numbers for each segment follow it. */
+    SPLICEREEL_NO_ROOM = 11,
+    /* Judge a segment: no such segment. Judge a movement: either run does not
+       exist or is not open. */
+    SPLICEREEL_NO_SUCH_RUN = 12,
+    /* Judge a movement: no movement joins the two runs. */
+    SPLICEREEL_NO_MOVEMENT = 13
+};
+
+/*
+ * Read: a network text into kept bytes.
+ *
+ * Accepted: returns 0, told[0] is the number of bytes written from the start
+ * of the output; later bytes stay.
+ * Refused: returns 1 to 7, told[0] is the line, counted from 1; the output
+ * stays as it was.
+ * told[1] to told[7] stay.
+ *
+ * (A line or a number of bytes that does not fit 32 bits leaves told[0] as it
+ * was; only a text of more than 4,294,967,294 lines has such a line.)
+ */
+uint32_t splicereel_read(
+    const uint8_t *text, size_t text_length,
+    uint8_t *output, size_t output_length,
+    uint32_t told[8]);
+
+/*
+ * Judge a segment of a kept network.
+ *
+ * Returns 0: told[0] is the level, 1 to 4; told[1] is the governing measure:
+ * 1 lanes, 2 reach, 3 speed, 4 blocking, 5 mixed traffic, 6 separate path.
+ * Refused: returns 8 or 12, told stays. The other elements of told stay.
+ */
+uint32_t splicereel_judge_segment(
+    const uint8_t *net, size_t net_length,
+    size_t segment,
+    uint32_t told[8]);
+
+/*
+ * Judge the movement from one run onto another.
+ *
+ * Returns 0: told[0] is the level, 1 to 4.
+ * Refused: returns 8, 12 or 13, told stays. The other elements of told stay.
+ */
+uint32_t splicereel_judge_movement(
+    const uint8_t *net, size_t net_length,
+    size_t first, size_t second,
+    uint32_t told[8]);
+
+/*
+ * Route: a shortest route from one node to another within a tolerance.
+ *
+ * Returns 0 and told[0] is 1: told[1] is the count of its runs, told[2] its
+ * length in feet, told[3] its level. The runs stand in the buffer from the
+ * place on; the numbers before the place and past the last run stay. Which of
+ * several shortest routes it is, is left open. From a node to itself it is
+ * the empty route: count 0, length 0, level 1.
+ * Returns 0 and told[0] is 0: there is no route within the tolerance. The
+ * buffer stays as it was, and so do told[1] to told[7].
+ * Refused: returns 8, 9, 10 or 11, in that order; nothing is written.
+ *
+ * Each scratch slice (best, previous) has at least 2 numbers for each segment,
+ * and so has the buffer from the place on. After an answer the scratch holds
+ * anything.
+ */
+uint32_t splicereel_route(
+    const uint8_t *net, size_t net_length,
+    size_t from, size_t to, size_t tolerance,
+    uint32_t *best, size_t best_length,
+    uint32_t *previous, size_t previous_length,
+    uint16_t *buffer, size_t buffer_length, size_t place,
+    uint32_t told[8]);
+
+/*
+ * Least stress: a shortest route within the smallest tolerance that has any.
+ *
+ * As splicereel_route without 10; where a route is found told[4] is that
+ * tolerance. None means that tolerance 4 has no route either.
+ */
+uint32_t splicereel_least_stress(
+    const uint8_t *net, size_t net_length,
+    size_t from, size_t to,
+    uint32_t *best, size_t best_length,
+    uint32_t *previous, size_t previous_length,
+    uint16_t *buffer, size_t buffer_length, size_t place,
+    uint32_t told[8]);
+
+#ifdef __cplusplus
+}
+#endif
+
+#endif

@@ -1,0 +1,179 @@
+//! `bench` times every call on the archive and on the twin and prints
+//! Markdown tables.
+
+use bench::clock::microseconds;
+use bench::{Call, Side, Subject, QUESTIONS};
+use std::fs;
+use twin::gen::{self, Shape};
+
+/// Sizes of the first table, in segments; growth is from the first to the
+/// last.
+const SIZES: [usize; 4] = [125, 250, 500, 1_000];
+/// Samples of each side; odd, so that one is the median.
+const SAMPLES: usize = 41;
+/// A sample takes at least so many microseconds.
+const SAMPLE: f64 = 500.0;
+/// Where the towns and questions come from.
+const SEED: u64 = 11;
+
+/// Microseconds for one call, each side's median, and the median of the ratios
+/// of samples taken one after the other.
+#[derive(Clone, Copy)]
+struct Times {
+    archive: f64,
+    twin: f64,
+    ratio: f64,
+}
+
+impl Times {
+    fn cell(self) -> String {
+        let Times {
+            archive,
+            twin,
+            ratio,
+        } = self;
+        format!("{archive:.1} / {twin:.1} = **{ratio:.2}**")
+    }
+}
+
+/// Microseconds for one call, as a mean over every question so many times.
+fn sample(subject: &mut Subject, side: Side, call: Call, rounds: usize) -> f64 {
+    let calls = rounds * QUESTIONS;
+    let start = microseconds();
+    for question in 0..calls {
+        subject.ask(side, call, question);
+    }
+    (microseconds() - start) / calls as f64
+}
+
+fn median(mut samples: Vec<f64>) -> f64 {
+    samples.sort_by(f64::total_cmp);
+    samples[samples.len() / 2]
+}
+
+/// Both sides by turns, each first in every other turn.
+fn time(subject: &mut Subject, call: Call) -> Times {
+    let once = sample(subject, Side::Twin, call, 1) * QUESTIONS as f64;
+    let rounds = 1 + (SAMPLE / once) as usize;
+    let mut turn = |turn: usize| {
+        if turn.is_multiple_of(2) {
+            let archive = sample(subject, Side::Archive, call, rounds);
+            (archive, sample(subject, Side::Twin, call, rounds))
+        } else {
+            let twin = sample(subject, Side::Twin, call, rounds);
+            (sample(subject, Side::Archive, call, rounds), twin)
+        }
+    };
+    let turns: Vec<(f64, f64)> = (0..SAMPLES).map(&mut turn).collect();
+    Times {
+        archive: median(turns.iter().map(|turn| turn.0).collect()),
+        twin: median(turns.iter().map(|turn| turn.1).collect()),
+        ratio: median(turns.iter().map(|turn| turn.0 / turn.1).collect()),
+    }
+}
+
+/// How many of the questions have a route.
+fn found(subject: &mut Subject, call: Call) -> usize {
+    (0..QUESTIONS)
+        .filter(|&question| subject.ask(Side::Archive, call, question).1)
+        .count()
+}
+
+/// The table over the sizes of one kind of town.
+fn by_size() {
+    let mut subjects: Vec<Subject> = SIZES
+        .iter()
+        .map(|&segments| Subject::new(&gen::mixed_grid(SEED, segments), SEED))
+        .collect();
+    print!("| call |");
+    SIZES.iter().for_each(|size| print!(" {size} segments |"));
+    println!(" growth |\n|---|---|---|---|---|---|");
+    for call in Call::ALL {
+        let times: Vec<Times> = subjects
+            .iter_mut()
+            .map(|subject| time(subject, call))
+            .collect();
+        print!("| {} |", call.title());
+        times.iter().for_each(|each| print!(" {} |", each.cell()));
+        let (first, last) = (times[0], times[times.len() - 1]);
+        println!(
+            " {:.1} / {:.1} |",
+            last.archive / first.archive,
+            last.twin / first.twin
+        );
+    }
+    print!("\nRoutes found, of {QUESTIONS} pairs");
+    for (size, subject) in SIZES.iter().zip(&mut subjects) {
+        let counts: Vec<String> = (1..=4)
+            .map(|tolerance| found(subject, Call::Route(tolerance)).to_string())
+            .collect();
+        print!(
+            "; {size} segments, tolerances 1 to 4: {}",
+            counts.join(", ")
+        );
+    }
+    println!(".\n");
+}
+
+/// The table over shapes, at the most segments each can have.
+fn by_shape() {
+    const CALLS: [Call; 6] = [
+        Call::Read,
+        Call::Segment,
+        Call::Route(2),
+        Call::Route(3),
+        Call::Route(4),
+        Call::Least,
+    ];
+    print!("| shape | nodes, segments |");
+    CALLS.iter().for_each(|call| print!(" {} |", call.title()));
+    println!("\n|---|---|{}", "---|".repeat(CALLS.len()));
+    for shape in Shape::ALL {
+        let town = gen::town(shape, SEED, 1_000);
+        if town.segments.len() < 100 {
+            continue; // one node, or none with streets: nothing to time
+        }
+        let mut subject = Subject::new(&town, SEED);
+        print!(
+            "| {} | {}, {} |",
+            shape.name(),
+            town.nodes,
+            town.segments.len()
+        );
+        for call in CALLS {
+            print!(" {} |", time(&mut subject, call).cell());
+        }
+        println!();
+    }
+}
+
+/// The kind of processor, as the system names it.
+fn machine() -> String {
+    let about = fs::read_to_string("/proc/cpuinfo").unwrap_or_default();
+    about
+        .lines()
+        .find_map(|line| line.strip_prefix("model name")?.split_once(": "))
+        .map_or_else(|| "unknown processor".into(), |(_, name)| name.to_string())
+}
+
+fn main() {
+    println!("# Times\n");
+    println!(
+        "Microseconds of processor time for one call, archive / twin = **ratio**; medians of {SAMPLES} samples for each side, \
+         taken by turns, a sample at least {} ms of calls over {QUESTIONS} questions; the ratio is the median of those \
+         of two samples taken one after the other. Release builds with link-time optimization, {}, {}. \
+         Nothing is cleared before a call: scratch and buffer hold what the call before left. \
+         Judge a segment and Judge a movement include the test of the kept bytes.\n",
+        SAMPLE / 1e3,
+        env!("BENCH_RUSTC"),
+        machine()
+    );
+    println!(
+        "A grid with mixed streets; growth is from {} segments to {}.\n",
+        SIZES[0],
+        SIZES[SIZES.len() - 1]
+    );
+    by_size();
+    println!("Other shapes, at 1,000 segments or as many as they have.\n");
+    by_shape();
+}

@@ -1,0 +1,152 @@
+//! What the comparisons reached, so that nothing is left out unseen.
+
+use crate::question::{Question, Seen};
+use std::collections::BTreeMap;
+use std::fmt;
+
+/// How often each thing was reached.
+#[derive(Clone, Debug, Default)]
+pub struct Reached(BTreeMap<String, u64>);
+
+impl Reached {
+    /// Counts a thing once more.
+    pub fn count(&mut self, thing: String) {
+        *self.0.entry(thing).or_default() += 1;
+    }
+
+    /// Counts what the archive answered to a question.
+    pub fn answer(&mut self, bytes: &[u8], question: Question, seen: &Seen) {
+        let told = seen.told.now();
+        let call = name(question);
+        self.count(match (question, seen.number) {
+            (Question::Read { .. }, 0) => "read kept".into(),
+            (Question::Read { .. }, number) => {
+                let position = position(bytes, number, told[0] as usize);
+                format!("read refused {number} at the {position} line")
+            }
+            (_, number @ 1..) => format!("{call} refused {number}"),
+            (Question::Segment { .. }, _) => format!("segment level {}", told[0]),
+            (Question::Movement { .. }, _) => format!("movement level {}", told[0]),
+            (
+                Question::Search {
+                    tolerance: Some(tolerance),
+                    ..
+                },
+                _,
+            ) => {
+                let found = if told[0] == 1 { "found" } else { "none" };
+                format!("route tolerance {tolerance} {found}")
+            }
+            (Question::Search { .. }, _) if told[0] == 0 => "least none".into(),
+            (Question::Search { .. }, _) => format!("least tolerance {} found", told[4]),
+        });
+        if let (Question::Segment { .. }, 0) = (question, seen.number) {
+            self.count(format!("segment measure {}", told[1]));
+        }
+        if let (Question::Search { .. }, 0, 1) = (question, seen.number, told[0]) {
+            let size = if told[1] == 0 { "empty" } else { "ridden" };
+            self.count(format!("{call} {size} route"));
+        }
+    }
+
+    /// What should have been reached and was not.
+    pub fn missing(&self) -> Vec<String> {
+        must_reach()
+            .into_iter()
+            .filter(|thing| !self.0.contains_key(thing))
+            .collect()
+    }
+}
+
+impl fmt::Display for Reached {
+    fn fmt(&self, out: &mut fmt::Formatter<'_>) -> fmt::Result {
+        for (thing, count) in &self.0 {
+            writeln!(out, "{count:>9}  {thing}")?;
+        }
+        Ok(())
+    }
+}
+
+/// The call's name.
+fn name(question: Question) -> &'static str {
+    match question {
+        Question::Read { .. } => "read",
+        Question::Segment { .. } => "segment",
+        Question::Movement { .. } => "movement",
+        Question::Search {
+            tolerance: Some(_), ..
+        } => "route",
+        Question::Search { .. } => "least",
+    }
+}
+
+/// The first line that a refusal of Read can name.
+fn first_line(number: u32) -> usize {
+    match number {
+        5 | 6 => 2, // a segment's line
+        _ => 1,
+    }
+}
+
+/// Where in a text a line lies.
+fn position(text: &[u8], number: u32, line: usize) -> &'static str {
+    let lines = text.split_inclusive(|&byte| byte == b'\n').count();
+    if line <= first_line(number) {
+        "first"
+    } else if line >= lines {
+        "last"
+    } else {
+        "middle"
+    }
+}
+
+/// The kinds of place and scratch that searches are asked with.
+pub const ROOMS: [&str; 10] = [
+    "exact",
+    "roomy",
+    "exact fit at a place",
+    "one too far",
+    "place at the end",
+    "place beyond the end",
+    "greatest place",
+    "place that wraps round",
+    "short best",
+    "short previous",
+];
+
+/// Everything that a run of comparisons has to reach.
+fn must_reach() -> Vec<String> {
+    let mut all: Vec<String> = vec!["read kept".into(), "least none".into()];
+    for number in 1..=6 {
+        for position in ["first", "middle", "last"] {
+            all.push(format!("read refused {number} at the {position} line"));
+        }
+    }
+    all.push("read refused 7 at the first line".into()); // it has no other
+    for (call, numbers) in [
+        ("segment", &[8, 12][..]),
+        ("movement", &[8, 12, 13]),
+        ("route", &[8, 9, 10, 11]),
+        ("least", &[8, 9, 11]),
+    ] {
+        all.extend(
+            numbers
+                .iter()
+                .map(|number| format!("{call} refused {number}")),
+        );
+    }
+    for number in 1..=4 {
+        all.push(format!("segment level {number}"));
+        all.push(format!("movement level {number}"));
+        all.push(format!("route tolerance {number} found"));
+        all.push(format!("route tolerance {number} none"));
+        all.push(format!("least tolerance {number} found"));
+    }
+    all.extend((1..=6).map(|measure| format!("segment measure {measure}")));
+    for call in ["route", "least"] {
+        all.extend(["empty", "ridden"].map(|size| format!("{call} {size} route")));
+    }
+    all.extend(ROOMS.map(|room| format!("room: {room}")));
+    all.extend(twin::gen::Shape::ALL.map(|shape| format!("shape: {}", shape.name())));
+    all
+}

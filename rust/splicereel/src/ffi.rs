@@ -1,0 +1,188 @@
+//! The archive's calls as C sees them: a number comes back, and what else a
+//! call has to tell stands in eight 32-bit numbers.
+//!
+//! Each function returns 0 where the call answers and the refusal's number
+//! otherwise. Numbers of [`Told`] that a call does not name stay as they
+//! were. This is the only module with unsafe code; what it gives is safe to
+//! use with any arguments.
+
+#![allow(unsafe_code)]
+
+/// What a call tells besides its number.
+pub type Told = [u32; 8];
+
+/// What a search needs to borrow.
+///
+/// With S segments each scratch slice has at least 2S numbers, and so has
+/// the buffer from the place on; otherwise the call refuses. They may hold
+/// anything beforehand.
+#[derive(Debug)]
+pub struct Lent<'l> {
+    /// Scratch: best lengths.
+    pub best: &'l mut [u32],
+    /// Scratch: previous runs.
+    pub previous: &'l mut [u32],
+    /// Where the route's runs are written, from the place on.
+    pub buffer: &'l mut [u16],
+    /// The index in the buffer of the route's first run.
+    pub place: usize,
+}
+
+mod archive {
+    unsafe extern "C" {
+        pub fn splicereel_read(
+            text: *const u8,
+            text_length: usize,
+            output: *mut u8,
+            output_length: usize,
+            told: *mut u32,
+        ) -> u32;
+
+        pub fn splicereel_judge_segment(
+            net: *const u8,
+            net_length: usize,
+            segment: usize,
+            told: *mut u32,
+        ) -> u32;
+
+        pub fn splicereel_judge_movement(
+            net: *const u8,
+            net_length: usize,
+            first: usize,
+            second: usize,
+            told: *mut u32,
+        ) -> u32;
+
+        pub fn splicereel_route(
+            net: *const u8,
+            net_length: usize,
+            from: usize,
+            to: usize,
+            tolerance: usize,
+            best: *mut u32,
+            best_length: usize,
+            previous: *mut u32,
+            previous_length: usize,
+            buffer: *mut u16,
+            buffer_length: usize,
+            place: usize,
+            told: *mut u32,
+        ) -> u32;
+
+        pub fn splicereel_least_stress(
+            net: *const u8,
+            net_length: usize,
+            from: usize,
+            to: usize,
+            best: *mut u32,
+            best_length: usize,
+            previous: *mut u32,
+            previous_length: usize,
+            buffer: *mut u16,
+            buffer_length: usize,
+            place: usize,
+            told: *mut u32,
+        ) -> u32;
+    }
+}
+
+// What every SAFETY comment below rests on: the archive's functions have no
+// precondition beyond C's own, that each pointer is not null, is aligned, and
+// has the elements that its length says, for reading, and for writing too
+// where it is not const; that nothing else touches them during the call; and
+// that no slice which is written overlaps another. A Rust slice keeps all of
+// it: its pointer is aligned and not null even where it is empty, and a
+// mutable slice shares no element with any other borrow. They keep no pointer
+// and have no state of their own.
+
+/// Read. 0: `told[0]` bytes are written. A refusal: `told[0]` is its line.
+#[inline]
+pub fn read(text: &[u8], output: &mut [u8], told: &mut Told) -> u32 {
+    // SAFETY: pointers and lengths of live slices; see above.
+    unsafe {
+        archive::splicereel_read(
+            text.as_ptr(),
+            text.len(),
+            output.as_mut_ptr(),
+            output.len(),
+            told.as_mut_ptr(),
+        )
+    }
+}
+
+/// Judge a segment. 0: `told[0]` is the level, `told[1]` the measure.
+#[inline]
+pub fn judge_segment(net: &[u8], segment: usize, told: &mut Told) -> u32 {
+    // SAFETY: pointers and lengths of live slices; see above.
+    unsafe {
+        archive::splicereel_judge_segment(net.as_ptr(), net.len(), segment, told.as_mut_ptr())
+    }
+}
+
+/// Judge a movement. 0: `told[0]` is the level.
+#[inline]
+pub fn judge_movement(net: &[u8], first: usize, second: usize, told: &mut Told) -> u32 {
+    // SAFETY: pointers and lengths of live slices; see above.
+    unsafe {
+        archive::splicereel_judge_movement(
+            net.as_ptr(),
+            net.len(),
+            first,
+            second,
+            told.as_mut_ptr(),
+        )
+    }
+}
+
+/// Route. 0: `told[0]` is 0 for none, or 1 and then `told[1]` is the count,
+/// `told[2]` the length, `told[3]` the level.
+#[inline]
+pub fn route(
+    net: &[u8],
+    from: usize,
+    to: usize,
+    tolerance: usize,
+    lent: Lent<'_>,
+    told: &mut Told,
+) -> u32 {
+    // SAFETY: pointers and lengths of live slices; see above.
+    unsafe {
+        archive::splicereel_route(
+            net.as_ptr(),
+            net.len(),
+            from,
+            to,
+            tolerance,
+            lent.best.as_mut_ptr(),
+            lent.best.len(),
+            lent.previous.as_mut_ptr(),
+            lent.previous.len(),
+            lent.buffer.as_mut_ptr(),
+            lent.buffer.len(),
+            lent.place,
+            told.as_mut_ptr(),
+        )
+    }
+}
+
+/// Least stress: as [`route`], and `told[4]` is the tolerance.
+#[inline]
+pub fn least_stress(net: &[u8], from: usize, to: usize, lent: Lent<'_>, told: &mut Told) -> u32 {
+    // SAFETY: pointers and lengths of live slices; see above.
+    unsafe {
+        archive::splicereel_least_stress(
+            net.as_ptr(),
+            net.len(),
+            from,
+            to,
+            lent.best.as_mut_ptr(),
+            lent.best.len(),
+            lent.previous.as_mut_ptr(),
+            lent.previous.len(),
+            lent.buffer.as_mut_ptr(),
+            lent.buffer.len(),
+            lent.place,
+            told.as_mut_ptr(),
+        )
+    }
+}

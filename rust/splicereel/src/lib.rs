@@ -1,0 +1,63 @@
+//! Bicycle stress levels and least-stress routes on a street network.
+//!
+//! A safe interface to the proved archive `libsplicereel_c.a`, which
+//! `make lib` writes. There are two forms of each call:
+//!
+//! - The comfortable one owns what it needs: [`Network::read`] and the methods
+//!   of [`Network`].
+//! - The lending one takes the caller's slices and allocates nothing:
+//!   [`read`], [`judge_segment`], [`judge_movement`], [`route`] and
+//!   [`least_stress`], with [`Lent`] for what a search borrows.
+//!
+//! Every call ends with an answer or a [`Refusal`] on every input; none
+//! panics, and a refusal leaves every lent slice as it was.
+//!
+//! ```
+//! use splicereel::{Level, Network};
+//!
+//! // Block town: three nodes in a row, a path round the block at the middle
+//! // one, and a wide street to cross on riding straight on there.
+//! let text = b"\
+//! 010100030003F8
+//! 02000000000104012C03030000000002061E0000000000000000000000A0
+//! 020001020001060384030300000000000000000000000000000000000067
+//! 02000100000204012C0303000000000000000000000000000000000000C4
+//! ";
+//! let network = Network::read(text)?;
+//! assert_eq!((network.nodes(), network.segments()), (3, 3));
+//!
+//! // Within tolerance 3 the way leads round the block, 1,500 feet.
+//! let route = network.route(0, 2, 3)?.expect("a way round the block");
+//! assert_eq!((route.length(), route.level()), (1_500, Level::One));
+//! // Tolerance 4 crosses the wide street, 600 feet.
+//! let route = network.route(0, 2, 4)?.expect("a way across");
+//! assert_eq!((route.length(), route.level()), (600, Level::Four));
+//! # Ok::<(), Box<dyn std::error::Error>>(())
+//! ```
+
+#![deny(missing_docs)]
+#![deny(unsafe_code)]
+
+mod answer;
+pub mod ffi;
+mod lending;
+mod network;
+mod refusal;
+
+pub use answer::{Direction, Found, Judged, Level, Measure, Run};
+pub use ffi::Lent;
+pub use lending::{judge_movement, judge_segment, least_stress, read, route};
+pub use network::{Network, Route};
+pub use refusal::{ReadRefusal, Refusal};
+
+/// The most nodes that a network of edition 01 has.
+pub const MAX_NODES: usize = 1_000;
+/// The most segments that a network of edition 01 has.
+pub const MAX_SEGMENTS: usize = 1_000;
+/// The most runs that a network of edition 01 has: two for each segment.
+///
+/// So long are the scratch slices and the buffer that serve every network.
+pub const MAX_RUNS: usize = 2 * MAX_SEGMENTS;
+/// The bytes of the largest network of edition 01: in an output so long, every
+/// one fits.
+pub const MAX_NETWORK: usize = 7 + 30 * MAX_SEGMENTS;

@@ -1,0 +1,213 @@
+//! The lending and the owned form of each call: refusals by name, and both
+//! forms alike on random towns.
+
+use splicereel::{
+    Direction, Found, Lent, Level, MAX_NETWORK, Network, ReadRefusal, Refusal, Run, judge_movement,
+    judge_segment, least_stress, read, route,
+};
+use std::collections::HashSet;
+use std::error::Error;
+use twin::r#gen::{self as towns, Rng, Shape, Spot, damage};
+use twin::lend::{Lengths, Lent as Room};
+use twin::town::block_town;
+
+/// Block town, its middle loop open one way only.
+fn one_way_loop() -> Network {
+    let mut town = block_town();
+    town.segments[1].ways = 1;
+    Network::read(&town.text()).expect("a network")
+}
+
+fn lent(room: &mut Room) -> Lent<'_> {
+    Lent {
+        best: room.best.lend(),
+        previous: room.previous.lend(),
+        buffer: room.buffer.lend(),
+        place: room.place,
+    }
+}
+
+#[test]
+fn each_refusal_of_read_has_its_name() {
+    let mut rng = Rng::new(1);
+    let net = towns::town(Shape::Grid, 3, 12).bytes();
+    let names = [
+        Refusal::NotDigits,
+        Refusal::WrongCheck,
+        Refusal::WrongFrame,
+        Refusal::WrongField,
+        Refusal::WrongCount,
+        Refusal::LegTaken,
+        Refusal::OutputTooShort,
+    ];
+    for (number, refusal) in (1..).zip(names) {
+        for spot in Spot::ALL {
+            let damaged = damage(&mut rng, &net, number, spot).expect("damage");
+            let line = u32::try_from(damaged.refusal.1).expect("a line");
+            let mut output = vec![9; damaged.output];
+            let refused = Err(ReadRefusal { refusal, line });
+            assert_eq!(
+                read(&damaged.text, &mut output),
+                refused,
+                "{}",
+                damaged.what
+            );
+            assert!(output.iter().all(|&byte| byte == 9));
+            if number != 7 {
+                assert_eq!(Network::read(&damaged.text).map(|_| 0), refused);
+            }
+        }
+    }
+}
+
+#[test]
+fn each_refusal_of_the_judges_has_its_name() {
+    let network = one_way_loop();
+    let net = network.bytes();
+    assert_eq!(judge_segment(&net[1..], 0), Err(Refusal::NotANetwork));
+    assert_eq!(judge_segment(net, 3), Err(Refusal::NoSuchRun));
+    assert_eq!(network.judge_segment(usize::MAX), Err(Refusal::NoSuchRun));
+    assert_eq!(judge_movement(&[], 0, 0), Err(Refusal::NotANetwork));
+    assert_eq!(judge_movement(net, 0, 3), Err(Refusal::NoSuchRun), "closed");
+    assert_eq!(judge_movement(net, 0, usize::MAX), Err(Refusal::NoSuchRun));
+    let (there, back) = (Run::from(0), Run::from(1));
+    let answer = network.judge_movement(there, back);
+    assert_eq!(answer, Err(Refusal::NoMovement));
+}
+
+#[test]
+fn each_refusal_of_the_searches_has_its_name() {
+    let network = one_way_loop();
+    let net = network.bytes();
+    let short = Lengths {
+        previous: 5,
+        ..Lengths::exact(6)
+    };
+    let far = Lengths {
+        place: usize::MAX,
+        ..Lengths::exact(6)
+    };
+    for (bytes, from, tolerance, lengths, refusal) in [
+        (&net[..36], 9, 9, short, Refusal::NotANetwork),
+        (net, 3, 9, short, Refusal::NoSuchNode),
+        (net, usize::MAX, 9, far, Refusal::NoSuchNode),
+        (net, 0, 0, short, Refusal::NoSuchTolerance),
+        (net, 0, usize::MAX, far, Refusal::NoSuchTolerance),
+        (net, 0, 4, short, Refusal::NoRoom),
+        (net, 0, 1, far, Refusal::NoRoom),
+    ] {
+        let mut room = Room::garbage(&mut Rng::new(1), lengths);
+        let answer = route(bytes, from, 2, tolerance, lent(&mut room));
+        assert_eq!(answer, Err(refusal));
+        let least = match refusal {
+            Refusal::NoSuchTolerance => Refusal::NoRoom,
+            other => other,
+        };
+        let answer = least_stress(bytes, from, 2, lent(&mut room));
+        assert_eq!(answer, Err(least));
+        assert!(room.untouched());
+    }
+    assert_eq!(network.route(0, 3, 1), Err(Refusal::NoSuchNode));
+    assert_eq!(network.route(0, 2, 5), Err(Refusal::NoSuchTolerance));
+    assert_eq!(network.least_stress(3, 0), Err(Refusal::NoSuchNode));
+}
+
+#[test]
+fn refusals_have_numbers_and_words() {
+    let mut words = HashSet::new();
+    for number in 1..=13 {
+        let refusal = Refusal::from_number(number);
+        assert_eq!(refusal.number(), number);
+        assert_ne!(refusal, Refusal::Unknown(number));
+        assert!(words.insert(refusal.to_string()), "{refusal} comes twice");
+    }
+    for number in [0, 14, u32::MAX] {
+        assert_eq!(Refusal::from_number(number), Refusal::Unknown(number));
+        assert_eq!(Refusal::Unknown(number).number(), number);
+    }
+    let refused = Network::read(b"").expect_err("an empty text");
+    assert_eq!(
+        refused.to_string(),
+        "line 1: the kind or the length of a frame is wrong for its position"
+    );
+    assert!(refused.source().is_some());
+}
+
+/// Both forms, on towns of every shape: the same bytes, levels and routes, as
+/// long as the twin's.
+#[test]
+fn forms_are_alike() {
+    let mut rng = Rng::new(5);
+    let mut ridden = 0;
+    for seed in 0..260 {
+        let shape = Shape::ALL[seed as usize % Shape::ALL.len()];
+        let size = rng.range(0, 60);
+        let town = towns::town(shape, seed, size);
+        let network = Network::read(&town.text()).expect("a network");
+        let mut output = vec![0; MAX_NETWORK];
+        let written = read(&town.text(), &mut output).expect("a network");
+        assert_eq!(&output[..written], network.bytes());
+        assert_eq!(network.nodes(), usize::from(town.nodes));
+        assert_eq!(network.segments(), town.segments.len());
+        assert_eq!(Network::from_bytes(town.bytes()).as_ref(), Ok(&network));
+        for segment in 0..network.segments() {
+            let (level, measure) = twin::judge_segment(network.bytes(), segment).expect("one");
+            let judged = network.judge_segment(segment).expect("one");
+            assert_eq!(judged.level.number(), usize::from(level));
+            assert_eq!(judged.measure.number(), usize::from(measure));
+        }
+        for _ in 0..6 {
+            let (from, to) = (rng.below(network.nodes()), rng.below(network.nodes()));
+            ridden += ways(&network, from, to);
+        }
+    }
+    assert!(ridden > 500, "{ridden} routes that are not empty");
+}
+
+/// Every tolerance and the least, in both forms; the number of routes that are
+/// not empty.
+fn ways(network: &Network, from: usize, to: usize) -> usize {
+    let (net, runs) = (network.bytes(), 2 * network.segments());
+    let mut ridden = 0;
+    for tolerance in 1..=4 {
+        let mut room = Room::exact(runs);
+        let found = route(net, from, to, tolerance, lent(&mut room)).expect("an answer");
+        let owned = network.route(from, to, tolerance).expect("an answer");
+        ridden += same(&room, found, owned.as_ref());
+        let twins = Room::exact(runs).route(net, from, to, tolerance as u8);
+        let twins = twins.expect("an answer").map(|found| found.length);
+        assert_eq!(found.map(|found| found.length), twins);
+    }
+    let mut room = Room::exact(runs);
+    let found = least_stress(net, from, to, lent(&mut room)).expect("an answer");
+    let owned = network.least_stress(from, to).expect("an answer");
+    let level = |tolerance: u8| Level::from_number(tolerance.into());
+    let twins = Room::exact(runs).least_stress(net, from, to);
+    let twins = twins
+        .expect("an answer")
+        .and_then(|(_, tolerance)| level(tolerance));
+    assert_eq!(found.map(|(_, tolerance)| tolerance), twins);
+    assert_eq!(owned.as_ref().map(|(_, tolerance)| *tolerance), twins);
+    let owned = owned.map(|(route, _)| route);
+    ridden + same(&room, found.map(|(found, _)| found), owned.as_ref())
+}
+
+/// The same route in both forms; 1 where it is not empty.
+fn same(room: &Room, found: Option<Found>, owned: Option<&splicereel::Route>) -> usize {
+    let (Some(found), Some(owned)) = (found, owned) else {
+        assert!(found.is_none() && owned.is_none());
+        return 0;
+    };
+    assert_eq!((found.length, found.level), (owned.length(), owned.level()));
+    let runs: Vec<Run> = room
+        .runs(found.count)
+        .iter()
+        .map(|&run| run.into())
+        .collect();
+    assert_eq!(runs, owned.runs());
+    for run in &runs {
+        let odd = usize::from(run.direction() == Direction::BToA);
+        assert_eq!(2 * run.segment() + odd, run.number());
+    }
+    usize::from(found.count > 0)
+}
