@@ -49,7 +49,7 @@ examples: $(LIB)
 	$(CARGO) build $(RUST) --package splicereel --example short
 	cp rust/target/release/examples/short target/examples/short-rust
 	for program in short-c short-rust; do \
-	  for tolerance in 3 4; do target/examples/$$program examples/block-town.txt 0 2 $$tolerance; done \
+	  for tolerance in 3 4; do target/examples/$$program towns/block-town.txt 0 2 $$tolerance; done \
 	    | diff examples/short.out - || exit 1; \
 	  echo "$$program prints what it must"; \
 	done

@@ -43,7 +43,7 @@ fn answered(number: u32) -> Result<(), Refusal> {
 ///
 /// ```
 /// use splicereel::{judge_segment, Level, Measure, Network, Refusal};
-/// # let text = include_bytes!(concat!(env!("CARGO_MANIFEST_DIR"), "/../../examples/block-town.txt"));
+/// # let text = include_bytes!(concat!(env!("CARGO_MANIFEST_DIR"), "/../../towns/block-town.txt"));
 /// let network = Network::read(text)?;
 /// let judged = judge_segment(network.bytes(), 0)?;
 /// assert_eq!((judged.level, judged.measure), (Level::One, Measure::SeparatePath));
@@ -66,7 +66,7 @@ pub fn judge_segment(net: &[u8], segment: usize) -> Result<Judged, Refusal> {
 ///
 /// ```
 /// use splicereel::{judge_movement, Level, Network, Refusal};
-/// # let text = include_bytes!(concat!(env!("CARGO_MANIFEST_DIR"), "/../../examples/block-town.txt"));
+/// # let text = include_bytes!(concat!(env!("CARGO_MANIFEST_DIR"), "/../../towns/block-town.txt"));
 /// let network = Network::read(text)?;
 /// // Straight on across the wide street, and to the right.
 /// assert_eq!(judge_movement(network.bytes(), 0, 4), Ok(Level::Four));
@@ -104,7 +104,7 @@ fn found(told: &Told) -> Result<Option<Found>, Refusal> {
 ///
 /// ```
 /// use splicereel::{route, Lent, Level, Network, MAX_RUNS};
-/// # let text = include_bytes!(concat!(env!("CARGO_MANIFEST_DIR"), "/../../examples/block-town.txt"));
+/// # let text = include_bytes!(concat!(env!("CARGO_MANIFEST_DIR"), "/../../towns/block-town.txt"));
 /// let network = Network::read(text)?;
 /// let (mut best, mut previous, mut buffer) = ([0; MAX_RUNS], [0; MAX_RUNS], [7; MAX_RUNS + 1]);
 /// let lent = Lent { best: &mut best, previous: &mut previous, buffer: &mut buffer, place: 1 };
@@ -134,7 +134,7 @@ pub fn route(
 ///
 /// ```
 /// use splicereel::{least_stress, Lent, Level, Network, MAX_RUNS};
-/// # let text = include_bytes!(concat!(env!("CARGO_MANIFEST_DIR"), "/../../examples/block-town.txt"));
+/// # let text = include_bytes!(concat!(env!("CARGO_MANIFEST_DIR"), "/../../towns/block-town.txt"));
 /// let network = Network::read(text)?;
 /// let (mut best, mut previous, mut buffer) = ([0; MAX_RUNS], [0; MAX_RUNS], [0; MAX_RUNS]);
 /// let lent = Lent { best: &mut best, previous: &mut previous, buffer: &mut buffer, place: 0 };

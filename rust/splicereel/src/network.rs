@@ -10,7 +10,7 @@ use crate::refusal::{ReadRefusal, Refusal};
 ///
 /// ```
 /// use splicereel::{Level, Network};
-/// # let text = include_bytes!(concat!(env!("CARGO_MANIFEST_DIR"), "/../../examples/block-town.txt"));
+/// # let text = include_bytes!(concat!(env!("CARGO_MANIFEST_DIR"), "/../../towns/block-town.txt"));
 /// let network = Network::read(text)?;
 /// for segment in 0..network.segments() {
 ///     assert_eq!(network.judge_segment(segment)?.level, Level::One);
@@ -94,7 +94,7 @@ impl Network {
     ///
     /// ```
     /// use splicereel::{Level, Network, Run};
-    /// # let text = include_bytes!(concat!(env!("CARGO_MANIFEST_DIR"), "/../../examples/block-town.txt"));
+    /// # let text = include_bytes!(concat!(env!("CARGO_MANIFEST_DIR"), "/../../towns/block-town.txt"));
     /// let network = Network::read(text)?;
     /// assert_eq!(network.judge_movement(Run::from(0), Run::from(4)), Ok(Level::Four));
     /// # Ok::<(), Box<dyn std::error::Error>>(())
@@ -110,7 +110,7 @@ impl Network {
     ///
     /// ```
     /// use splicereel::{Direction, Network, Refusal};
-    /// # let text = include_bytes!(concat!(env!("CARGO_MANIFEST_DIR"), "/../../examples/block-town.txt"));
+    /// # let text = include_bytes!(concat!(env!("CARGO_MANIFEST_DIR"), "/../../towns/block-town.txt"));
     /// let network = Network::read(text)?;
     /// let route = network.route(0, 2, 4)?.expect("a way across");
     /// let segments: Vec<usize> = route.runs().iter().map(|run| run.segment()).collect();
@@ -137,7 +137,7 @@ impl Network {
     ///
     /// ```
     /// use splicereel::{Level, Network};
-    /// # let text = include_bytes!(concat!(env!("CARGO_MANIFEST_DIR"), "/../../examples/block-town.txt"));
+    /// # let text = include_bytes!(concat!(env!("CARGO_MANIFEST_DIR"), "/../../towns/block-town.txt"));
     /// let network = Network::read(text)?;
     /// let (route, tolerance) = network.least_stress(0, 2)?.expect("a way");
     /// assert_eq!((route.length(), tolerance), (1_500, Level::One));
