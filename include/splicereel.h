@@ -2,8 +2,8 @@
  * Splicereel: bicycle stress levels and least-stress routes on a street
  * network.
  *
- * Link with target/staticlib/libsplicereel_c.a, which `make lib` writes. The
- * archive needs nothing but memset.
+ * Link with target/staticlib/libsplicereel_c.a, which `make lib` writes, for
+ * x86-64. Of the C library it needs memory functions such as memset alone.
  *
  * Every call, on every input that keeps the rules below, ends with an answer
  * or a refusal. It returns 0 where it answers and the refusal's number

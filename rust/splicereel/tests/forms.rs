@@ -133,6 +133,26 @@ fn refusals_have_numbers_and_words() {
     assert!(refused.source().is_some());
 }
 
+/// A call takes less than 64 KiB of stack, as the header says; the thread's
+/// own needs get 16 more.
+#[test]
+fn calls_fit_a_small_stack() {
+    let town = towns::town(Shape::Grid, 11, 1_000);
+    let (text, net) = (town.text(), town.bytes());
+    let calls = move || {
+        let mut output = vec![0; MAX_NETWORK];
+        let mut room = Room::exact(2_000);
+        let read = read(&text, &mut output).is_ok();
+        let judged = judge_segment(&net, 999).is_ok() && judge_movement(&net, 0, 0).is_err();
+        let routed = route(&net, 0, 505, 4, lent(&mut room)).is_ok();
+        let least = least_stress(&net, 0, 505, lent(&mut room)).is_ok();
+        read && judged && routed && least
+    };
+    let small = std::thread::Builder::new().stack_size(80 * 1024);
+    let thread = small.spawn(calls).expect("a thread");
+    assert!(thread.join().expect("no panic"));
+}
+
 /// Both forms, on towns of every shape: the same bytes, levels and routes, as
 /// long as the twin's.
 #[test]
