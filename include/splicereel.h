@@ -103,9 +103,6 @@ enum splicereel_number {
  * Refused: returns 1 to 7, told[0] is the line, counted from 1; the output
  * stays as it was.
  * told[1] to told[7] stay.
- *
- * (A line or a number of bytes that does not fit 32 bits leaves told[0] as it
- * was; only a text of more than 4,294,967,294 lines has such a line.)
  */
 uint32_t splicereel_read(
     const uint8_t *text, size_t text_length,
