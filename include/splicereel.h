@@ -100,12 +100,10 @@ enum splicereel_number {
  *
  * Accepted: returns 0, told[0] is the number of bytes written from the start
  * of the output; later bytes stay.
- * Refused: returns 1 to 7, told[0] is the line, counted from 1; the output
- * stays as it was.
+ * Refused: returns 1 to 7, told[0] is the line, counted from 1 (at most 1002:
+ * a line after the last segment's is refused itself); the output stays as it
+ * was.
  * told[1] to told[7] stay.
- *
- * (A line or a number of bytes that does not fit 32 bits leaves told[0] as it
- * was; only a text of more than 4,294,967,294 lines has such a line.)
  */
 uint32_t splicereel_read(
     const uint8_t *text, size_t text_length,
