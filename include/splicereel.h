@@ -100,8 +100,9 @@ enum splicereel_number {
  *
  * Accepted: returns 0, told[0] is the number of bytes written from the start
  * of the output; later bytes stay.
- * Refused: returns 1 to 7, told[0] is the line, counted from 1; the output
- * stays as it was.
+ * Refused: returns 1 to 7, told[0] is the line, counted from 1 (at most 1002:
+ * a line after the last segment's is refused itself); the output stays as it
+ * was.
  * told[1] to told[7] stay.
  */
 uint32_t splicereel_read(
