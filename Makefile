@@ -10,7 +10,7 @@ RUST := --offline --release --manifest-path rust/Cargo.toml
 TIMED := --offline --profile timed --manifest-path rust/Cargo.toml
 CFLAGS := -std=c11 -O2 -Wall -Wextra -Wpedantic -Werror
 
-.PHONY: help lib rust compare bench instructions examples
+.PHONY: help lib rust compare bench instructions stack examples
 
 help:
 	@echo "make lib           prove the calls and write the archive for C and Rust"
@@ -18,6 +18,7 @@ help:
 	@echo "make compare       archive and twin side by side for MINUTES=$(MINUTES), SEED=$(SEED)"
 	@echo "make bench         times of archive and twin, as Markdown tables"
 	@echo "make instructions  instructions for a call of archive and twin (needs valgrind)"
+	@echo "make stack         bytes of stack that each call takes"
 	@echo "make examples      build and run the short C and Rust programs, compare what they print"
 
 lib:
@@ -31,7 +32,7 @@ $(LIB):
 
 rust: lib
 	$(CARGO) build $(RUST)
-	$(CARGO) test $(RUST)
+	$(CARGO) test $(RUST) --quiet -- --show-output
 
 compare: $(LIB)
 	$(CARGO) run $(RUST) --package splicereel-compare -- $(MINUTES) $(SEED)
@@ -41,6 +42,12 @@ bench: $(LIB)
 
 instructions: $(LIB)
 	rust/bench/instructions
+
+# Asked about the largest town of tests/.
+stack: $(LIB)
+	mkdir -p target/examples
+	$(CC) -std=gnu11 -O2 -Wall -Wextra -Werror -Iinclude rust/bench/stack.c $(LIB) -o target/examples/stack
+	target/examples/stack tests/routes/thousand-grid.in
 
 # Both programs are asked about Block town, within tolerance 3 and within 4, and must print the same.
 examples: $(LIB)
