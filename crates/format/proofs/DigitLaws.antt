@@ -2,20 +2,20 @@
 -- (`Fronts`) is proved along the same clauses, and a scan's answer then tells the line's bytes, their sum and the text after it.
 -- Assumes nothing.
 use Prim.Native.Nat.{ℕ, zero, suc, _+_, _*_, _-_, _%_, _≤_, _<_}
-use mathlib.Core.Bool.{Bool, true, false, cond, _&&_}
+use mathlib.Core.Bool.{Bool, true, false, cond, _&&_, true≢false}
 use mathlib.Core.Path.{_≡_, refl, sym, ap, _∙_}
 use mathlib.Core.List.{List, [], _∷_}
 use native.Mathlib.Omega.{arith}
 use native.Mathlib.Nat.{mul-zero}
-use borrow.Author.Tests.{leb-true, eq-eqb, ne-eqb}
+use borrow.Author.Tests.{leb-true, eq-eqb, ne-eqb, eqb-true}
 use lib.Dec.{leb, eqb}
 use lib.ListN.{length, getD, drop, length-drop, length-append, drop-of-length-le}
 use lib.Seq.{drop-drop, getD-drop}
-use Rattle.routes.proofs.Facts.{and-true}
+use Rattle.routes.proofs.Facts.{and-true, true-and}
 use Rattle.format.specs.declared.digits.Scan.the-variants.{Broken, Whole}
 use Rattle.format.specs.Digits.{within, isDigit, digit, Line, broken, line, push, lineOf, bytesOf, restOf}
 use Rattle.format.specs.Frame.{total}
-use Rattle.format.specs.Scan.{scanned, spelled, spelledLines}
+use Rattle.format.specs.Scan.{scanned, areDigits, spelled, spelledLines}
 use Rattle.format.proofs.Lists.{times-suc, drop-one, drop-two}
 
 -- ---- digits
@@ -116,29 +116,60 @@ length-spelled-lines size (suc m) t =
     length-append (spelled size t) (spelledLines size m (drop (2 * size + 1) t))
     ∙ omega (arith, length-spelled size t, length-spelled-lines size m (drop (2 * size + 1) t), times-suc size m)
 
--- ---- a line and the text that it fronts: the text has room for it, its digits spell its bytes, and the rest comes after it
+-- ---- a line and the text that it fronts: the text has room for it, its digits spell its bytes, the rest comes after it, and it is digits and 0A
 abbrev pub Fronts : List ℕ → Line → Type 0
 Fronts t broken = Unit {0}
-Fronts t (line bs rest) = (2 * length bs + 1 ≤ length t) × (bs ≡ spelled (length bs) t) × (rest ≡ drop (2 * length bs + 1) t)
+Fronts t (line bs rest) =
+    (2 * length bs + 1 ≤ length t) × (bs ≡ spelled (length bs) t) × (rest ≡ drop (2 * length bs + 1) t)
+    × (areDigits (2 * length bs) t ≡ true) × (getD t (2 * length bs) 0 ≡ 10)
 
-fronts-cond : (t : List ℕ) (b : Bool) (l m : Line) → Fronts t l → Fronts t m → Fronts t (cond b l m)
-fronts-cond t true l m p q = p
+fronts-cond : (t : List ℕ) (b : Bool) (l m : Line) → (b ≡ true → Fronts t l) → Fronts t m → Fronts t (cond b l m)
+fronts-cond t true l m p q = p refl
 fronts-cond t false l m p q = q
 
-fronts-push : (x y : ℕ) (t : List ℕ) (l : Line) → Fronts t l → Fronts (x ∷ y ∷ t) (push (16 * digit x + digit y) l)
-unfolding spelled
-fronts-push x y t broken p = tt
-fronts-push x y t (line bs rest) p =
+fronts-push : (x y : ℕ) (t : List ℕ) (l : Line) → (isDigit x && isDigit y) ≡ true → Fronts t l
+    → Fronts (x ∷ y ∷ t) (push (16 * digit x + digit y) l)
+unfolding spelled areDigits
+fronts-push x y t broken d p = tt
+fronts-push x y t (line bs rest) d p =
     let e : 2 * suc (length bs) + 1 ≡ suc (suc (2 * length bs + 1)) = omega arith in
-    (omega (arith, p .0), ap (λ (u : List ℕ). (16 * digit x + digit y) ∷ u) (p .1), rw e (p .2))
+    let f : 2 * suc (length bs) ≡ suc (suc (2 * length bs)) = omega arith in
+    let g = and-true (isDigit x) (isDigit y) d in (
+      omega (arith, p .0),
+      ap (λ (u : List ℕ). (16 * digit x + digit y) ∷ u) (p .1),
+      rw e (p .2),
+      rw (f, g .0, g .1) (p .3),
+      rw f (p .4),
+    )
 
 pub fronts : (t : List ℕ) → Fronts t (lineOf t)
-unfolding lineOf spelled
+unfolding lineOf spelled areDigits
 fronts [] = tt
-fronts (x ∷ []) = fronts-cond (x ∷ []) (eqb x 10) (line [] []) broken (omega arith, refl, refl) tt
+fronts (x ∷ []) = fronts-cond (x ∷ []) (eqb x 10) (line [] []) broken (λ e. (omega arith, refl, refl, refl, eqb-true _ _ e)) tt
 fronts (x ∷ y ∷ t) =
-    fronts-cond (x ∷ y ∷ t) (eqb x 10) (line [] (y ∷ t)) _ (omega arith, refl, refl)
-    (fronts-cond (x ∷ y ∷ t) (isDigit x && isDigit y) _ broken (fronts-push x y t (lineOf t) (fronts t)) tt)
+    fronts-cond (x ∷ y ∷ t) (eqb x 10) (line [] (y ∷ t)) _ (λ e. (omega arith, refl, refl, refl, eqb-true _ _ e))
+    (fronts-cond (x ∷ y ∷ t) (isDigit x && isDigit y) _ broken (λ d. fronts-push x y t (lineOf t) d (fronts t)) tt)
+
+-- digits and 0A in their places are a line
+digit-no-end : (x : ℕ) → isDigit x ≡ true → eqb x 10 ≡ false
+unfolding isDigit
+digit-no-end x d = ne-eqb x 10 (λ (e : x ≡ 10). true≢false (sym d ∙ rw e))
+
+pub whole-line : (n : ℕ) (t : List ℕ) → 2 * n < length t → areDigits (2 * n) t ≡ true → getD t (2 * n) 0 ≡ 10
+    → lineOf t ≡ line (spelled n t) (drop (2 * n + 1) t)
+unfolding spelled areDigits
+whole-line zero [] h d e = absurd (omega arith)
+whole-line zero (x ∷ t) h d e = line-end x t (eq-eqb x 10 e)
+whole-line (suc n) [] h d e = absurd (omega arith)
+whole-line (suc n) (x ∷ []) h d e = absurd (omega arith)
+whole-line (suc n) (x ∷ y ∷ t) h d e =
+    let f : 2 * suc n ≡ suc (suc (2 * n)) = omega arith in
+    let p = and-true (isDigit x) (isDigit y && areDigits (2 * n) t) (rw f at d) in
+    let q = and-true (isDigit y) (areDigits (2 * n) t) (p .1) in
+    let g : 2 * suc n + 1 ≡ suc (suc (2 * n + 1)) = omega arith in
+    rw g
+    (line-pair x y t (digit-no-end x (p .0)) (true-and (isDigit x) (isDigit y) (p .0) (q .0))
+    ∙ ap (push (16 * digit x + digit y)) (whole-line n t (omega arith) (q .1) (rw f at e)))
 
 -- ---- what a scan that finds a line tells
 pub record Scanned (t : List ℕ) (at count sum next : ℕ) (l : Line) : Type 0 where
@@ -193,6 +224,14 @@ after-line : (t : List ℕ) (n : ℕ) (l : Line) → 0 < n → Fronts t l → le
     → (2 * n + 1 ≤ length t) × (restOf l ≡ drop (2 * n + 1) t)
 after-line t n broken z p e = absurd (omega arith)
 after-line t n (line bs r) z p e = (omega (arith, p .0), rw e at (p .2))
+
+digits-of-line : (t : List ℕ) (n : ℕ) (l : Line) → 0 < n → Fronts t l → length (bytesOf l) ≡ n
+    → (areDigits (2 * n) t ≡ true) × (getD t (2 * n) 0 ≡ 10)
+digits-of-line t n broken z p e = absurd (omega arith)
+digits-of-line t n (line bs r) z p e = (rw e at (p .3), rw e at (p .4))
+
+pub line-digits : (t : List ℕ) (n : ℕ) → 0 < n → length (bytesOf (lineOf t)) ≡ n → (areDigits (2 * n) t ≡ true) × (getD t (2 * n) 0 ≡ 10)
+line-digits t n z e = digits-of-line t n (lineOf t) z (fronts t) e
 
 pub line-after : (t : List ℕ) (at n : ℕ) → at ≤ length t → 0 < n → length (bytesOf (lineOf (drop at t))) ≡ n
     → (at + (2 * n + 1) ≤ length t) × (restOf (lineOf (drop at t)) ≡ drop (at + (2 * n + 1)) t)

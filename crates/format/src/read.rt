@@ -8,7 +8,7 @@ ghost use Rattle.format.specs.Edition.{frameBytes};
 ghost use Rattle.format.specs.Ranges.{headOk};
 ghost use Rattle.format.specs.Read.{framed, readOf};
 ghost use Rattle.format.specs.Scan.{spelledText};
-ghost use Rattle.format.specs.Lines.{bytesAt, FrameRead, SegmentJudged, linesAfter};
+ghost use Rattle.format.specs.Lines.{bytesAt, LineDecoded, LineFault, FrameRead, SegmentJudged, linesAfter};
 ghost use Rattle.format.specs.Told.{told, toldOf, ReadDid};
 use crate::Fault;
 use crate::ReadAnswer;
@@ -18,6 +18,7 @@ use crate::digits::Scan;
 use crate::digits::decode_into;
 use crate::digits::scan_line;
 use crate::edition::frame_bytes;
+use crate::frame::sum_of;
 use crate::frame::word_at;
 use crate::ranges::ends_ok;
 use crate::ranges::head_ok;
@@ -29,29 +30,59 @@ pub enum LineRead {
     Faulty(Fault),
 }
 
-// Reads the line at a place as a frame of this kind and of the buffer's length.
-fn frame_line(text: &[u8], at: usize, kind: u8, frame: &mut [u8]) -> LineRead
-    requires { ⌜ (at ≤ length (now text)) × (0 < length (now frame)) ⌝ }
-    ensures { λ r. ⌜ FrameRead (now (text .entry)) at kind (now (frame .entry)) (now (frame .exit)) r ⌝ }
+// Reads the line at a place into the buffer, where it has as many bytes as the buffer: then its digits and its 0A stand where they must, and nothing
+// is searched for.
+fn whole_line(text: &[u8], at: usize, frame: &mut [u8]) -> bool
+    requires { ⌜ (at ≤ length (now text)) × (0 < length (now frame)) × (length (now frame) ≤ 32) ⌝ }
+    ensures { λ r. ⌜ LineDecoded (now (text .entry)) at (now (frame .entry)) (now (frame .exit)) r ⌝ }
 {
-    let Scan::Whole { count, sum, next } = scan_line(text, at) else {
-        return LineRead::Faulty(Fault::NotDigits);
+    let digits = 2 * frame.len();
+    if text.len() - at <= digits {
+        return false;
+    }
+    if text[at + digits] == 10 {
+        return decode_into(text, at, frame);
+    }
+    false
+}
+
+// The fault of the line at a place that has another number of bytes than it should.
+fn fault_of(text: &[u8], at: usize) -> Fault
+    requires { ⌜ at ≤ length (now text) ⌝ }
+    ensures { λ r. ⌜ LineFault (now (text .entry)) at r ⌝ }
+{
+    let Scan::Whole {
+        count,
+        sum,
+        next: _,
+    } = scan_line(text, at)
+    else {
+        return Fault::NotDigits;
     };
     if count == 0 {
-        return LineRead::Faulty(Fault::NotDigits);
+        return Fault::NotDigits;
     }
     if sum != 0 {
-        return LineRead::Faulty(Fault::WrongCheck);
+        return Fault::WrongCheck;
     }
-    if count != frame.len() {
+    Fault::WrongFrame
+}
+
+// Reads the line at a place as a frame of this kind and of the buffer's length.
+fn frame_line(text: &[u8], at: usize, kind: u8, frame: &mut [u8]) -> LineRead
+    requires { ⌜ (at ≤ length (now text)) × (0 < length (now frame)) × (length (now frame) ≤ 32) ⌝ }
+    ensures { λ r. ⌜ FrameRead (now (text .entry)) at kind (now (frame .entry)) (now (frame .exit)) r ⌝ }
+{
+    if whole_line(text, at, frame) {
+        if sum_of(frame) != 0 {
+            return LineRead::Faulty(Fault::WrongCheck);
+        }
+        if frame[0] == kind {
+            return LineRead::Frame(at + 2 * frame.len() + 1);
+        }
         return LineRead::Faulty(Fault::WrongFrame);
     }
-    decode_into(text, at, frame);
-    if frame[0] == kind {
-        LineRead::Frame(next)
-    } else {
-        LineRead::Faulty(Fault::WrongFrame)
-    }
+    LineRead::Faulty(fault_of(text, at))
 }
 
 // Judges the frame of segment s, whose line had no fault of its own, and takes its legs where it has no fault either.

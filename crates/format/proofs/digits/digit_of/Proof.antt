@@ -10,18 +10,12 @@ use Rattle.format.proofs.digits.digit_of.Tie as tie
 sub-result : tie.Need-sub-result
 sub-result c = within-low 48 57 _ (c .if1 .taken)
 
-cast-result : tie.Need-cast-result
-cast-result c = search needs
-
 returns : tie.Need-returns
 unfolding digit
 returns c = (simp (c .if1 .taken), omega (arith, within-high 48 57 (c .before .args .x) (c .if1 .taken)))
 
 sub-result-2 : tie.Need-sub-result-2
 sub-result-2 c = omega (arith, within-low 65 70 (c .before .before .args .x) (c .if2 .taken))
-
-cast-result-2 : tie.Need-cast-result-2
-cast-result-2 c = search needs
 
 returns-2 : tie.Need-returns-2
 unfolding digit
@@ -34,4 +28,4 @@ returns-3 c = (simp (c .before .if1 .left, c .if2 .left), omega arith)
 pub digit-of-spec : {M : Type 1} → statement M
 digit-of-spec =
     tie.close
-    (tie.spec sub-result cast-result returns sub-result-2 cast-result-2 returns-2 returns-3)
+    (tie.spec sub-result returns sub-result-2 returns-2 returns-3)

@@ -78,17 +78,17 @@ is-digit-requires-2 c κs = search needs
 digit-of-requires : tie.Need-digit-of-requires Inv-loop μ-loop
 digit-of-requires c κs = search needs
 
-mul-sum : tie.Need-mul-sum Inv-loop μ-loop
-mul-sum c = omega arith
-
 digit-of-requires-2 : tie.Need-digit-of-requires-2 Inv-loop μ-loop
 digit-of-requires-2 c κs = search needs
 
+byte-of-requires : tie.Need-byte-of-requires Inv-loop μ-loop
+byte-of-requires c κs = (c .before .digit-of .ensures .1, c .digit-of2 .ensures .1)
+
+cast-sum : tie.Need-cast-sum Inv-loop μ-loop
+cast-sum c = omega arith
+
 add-sum : tie.Need-add-sum Inv-loop μ-loop
 add-sum c = omega arith
-
-add-sum-2 : tie.Need-add-sum-2 Inv-loop μ-loop
-add-sum-2 c = omega arith
 
 add-count : tie.Need-add-count Inv-loop μ-loop
 add-count c = omega arith
@@ -101,14 +101,14 @@ loop-less c = omega arith
 
 loop-again : tie.Need-loop-again Inv-loop μ-loop
 loop-again c =
-    let at-loop = c .before .before .before .before .before .before .before .before .before .before in (
+    let at-loop = c .before .before .before .before .before .before .before .before .before .before .before in (
       omega arith,
       omega arith,
       omega arith,
-      rw (c .before .digit-of .ensures .0, c .digit-of2 .ensures .0)
-          (goes-on _ _ _ _ _ (at-loop .loop .inv .3) (omega arith) (c .before .before .before .before .before .before .before .if1 .left)
-          (subst₂ (λ (a b : Bool). (a && b) ≡ true) (c .before .before .before .before .is-digit .ensures)
-          (c .before .before .before .is-digit2 .ensures) (c .before .before .if3 .taken))),
+      rw (c .byte-of .ensures, c .before .before .digit-of .ensures .0, c .before .digit-of2 .ensures .0)
+          (goes-on _ _ _ _ _ (at-loop .loop .inv .3) (omega arith) (c .before .before .before .before .before .before .before .before .if1 .left)
+          (subst₂ (λ (a b : Bool). (a && b) ≡ true) (c .before .before .before .before .before .is-digit .ensures)
+          (c .before .before .before .before .is-digit2 .ensures) (c .before .before .before .if3 .taken))),
     )
 
 returns-3 : tie.Need-returns-3 Inv-loop μ-loop
@@ -137,10 +137,10 @@ scan-line-spec =
     is-digit-requires
     is-digit-requires-2
     digit-of-requires
-    mul-sum
     digit-of-requires-2
+    byte-of-requires
+    cast-sum
     add-sum
-    add-sum-2
     add-count
     add-i
     loop-less
