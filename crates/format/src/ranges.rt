@@ -66,7 +66,7 @@ fn crossing_ok(f: &[u8], e: u8, i: usize) -> bool
             & ((5 <= speed) & (speed <= 85)))
 }
 
-// The turn lane of the approach at place i of a frame.
+// The turn lane of the approach at place i of a frame. Most approaches have none.
 fn turn_lane_ok(f: &[u8], i: usize) -> bool
     requires { ⌜ i + 6 < length (now f) ⌝ }
     ensures { λ r. ⌜ r ≡ turnLaneOk (now (f .entry)) i ⌝ }
@@ -74,10 +74,10 @@ fn turn_lane_ok(f: &[u8], i: usize) -> bool
     let kind = f[i + 3];
     let feet = word_at(f, i + 4);
     let speed = f[i + 6];
-    ((kind == 0) & (feet == 0) & (speed == 0))
-        | (((1 <= kind) & (kind <= 3))
-            & ((1 <= feet) & (feet <= 2000))
-            & ((5 <= speed) & (speed <= 85)))
+    if kind == 0 {
+        return (feet == 0) & (speed == 0);
+    }
+    (kind <= 3) & ((1 <= feet) & (feet <= 2000)) & ((5 <= speed) & (speed <= 85))
 }
 
 // The approach at place i of a frame.
@@ -85,10 +85,13 @@ fn approach_ok(f: &[u8], e: u8, i: usize) -> bool
     requires { ⌜ i + 6 < length (now f) ⌝ }
     ensures { λ r. ⌜ r ≡ approachOk e (now (f .entry)) i ⌝ }
 {
-    crossing_ok(f, e, i) & turn_lane_ok(f, i)
+    if crossing_ok(f, e, i) {
+        return turn_lane_ok(f, i);
+    }
+    false
 }
 
-// All that a segment's frame has after its ends.
+// All that a segment's frame has after its ends. A frame that is refused is rare, so each test is a branch of its own, which costs the others nothing.
 pub fn street_ok(f: &[u8], e: u8) -> bool
     requires { ⌜ frameBytes e ≤ length (now f) ⌝ }
     ensures { λ r. ⌜ r ≡ streetOk e (now (f .entry)) ⌝ }
@@ -96,9 +99,14 @@ pub fn street_ok(f: &[u8], e: u8) -> bool
     let x = extra_of(e);
     let feet = feet_of(f, e);
     let ways = f[x + 10];
-    ((1 <= feet) & (feet <= most_feet(e)))
-        & form_ok(f, e)
-        & ((1 <= ways) & (ways <= 3))
-        & approach_ok(f, e, x + 15)
-        & approach_ok(f, e, x + 22)
+    if ((1 <= feet) & (feet <= most_feet(e))) & ((1 <= ways) & (ways <= 3)) {
+        if form_ok(f, e) {
+            if approach_ok(f, e, x + 15) {
+                return approach_ok(f, e, x + 22);
+            }
+            return false;
+        }
+        return false;
+    }
+    false
 }

@@ -99,11 +99,14 @@ fn judge_frame(
     ensures { λ r. ⌜ SegmentJudged (now (frame .entry)) next e n more s (now (index .entry)) (now (index .exit)) r ⌝ }
 {
     if more {
-        if ends_ok(frame, n) & street_ok(frame, e) {
-            if claim_legs(frame, s, index) {
-                return LineRead::Frame(next);
+        if street_ok(frame, e) {
+            if ends_ok(frame, n) {
+                if claim_legs(frame, s, index) {
+                    return LineRead::Frame(next);
+                }
+                return LineRead::Faulty(Fault::LegTaken);
             }
-            return LineRead::Faulty(Fault::LegTaken);
+            return LineRead::Faulty(Fault::WrongField);
         }
         return LineRead::Faulty(Fault::WrongField);
     }

@@ -1,6 +1,8 @@
--- The tests are those of the definition, with the called functions' values put in.
+-- The crossing decides, and then the turn lane.
 -- Assumes nothing.
+use mathlib.Core.Path.{sym, _∙_}
 use Rattle.format.specs.Ranges.{approachOk}
+use native.Mathlib.Omega.{arith}
 use borrow.Author.Needs.{needs}
 use Rattle.format.proofs.ranges.approach_ok.Statement.{statement}
 use Rattle.format.proofs.ranges.approach_ok.Tie as tie
@@ -13,7 +15,12 @@ turn-lane-ok-requires c κs = search needs
 
 returns : tie.Need-returns
 unfolding approachOk
-returns c = rw (c .before .crossing-ok .ensures, c .turn-lane-ok .ensures)
+returns c = rw (sym (c .before .before .crossing-ok .ensures) ∙ c .before .if1 .taken) (c .turn-lane-ok .ensures)
+
+returns-2 : tie.Need-returns-2
+unfolding approachOk
+returns-2 c = rw (sym (c .before .crossing-ok .ensures) ∙ c .if1 .left)
 
 pub approach-ok-spec : {M : Type 1} → statement M
-approach-ok-spec = tie.close (tie.spec crossing-ok-requires turn-lane-ok-requires returns)
+approach-ok-spec =
+    tie.close (tie.spec crossing-ok-requires turn-lane-ok-requires returns returns-2)
