@@ -1,6 +1,14 @@
--- The tests are those of the definition, with the called function's value put in.
+-- A control that crosses nothing leaves the first alternative of the definition, any other the second.
 -- Assumes nothing.
+use mathlib.Core.Bool.{or-false, true, false}
+use mathlib.Core.Path.{_≡_, sym, _∙_}
+use lib.ListN.{getD}
+use Rattle.format.specs.Digits.{within}
+use Rattle.format.specs.Edition.{crossesNothing}
+use Rattle.format.specs.Frame.{control}
 use Rattle.format.specs.Ranges.{crossingOk}
+use Rattle.format.proofs.EditionLaws.{crosses-or-not}
+use native.Mathlib.Omega.{arith}
 use borrow.Author.Needs.{needs}
 use Rattle.format.proofs.ranges.crossing_ok.Statement.{statement}
 use Rattle.format.proofs.ranges.crossing_ok.Tie as tie
@@ -25,7 +33,15 @@ crosses-nothing-requires c κs = search needs
 
 returns : tie.Need-returns
 unfolding crossingOk
-returns c = rw (c .crosses-nothing .ensures)
+returns c =
+    let a = c .before .before .before .before .before .before .args in
+    let nothing : crossesNothing (a .e) (control (a .f .now) (a .i)) ≡ true = sym (c .before .crosses-nothing .ensures) ∙ c .if1 .taken in
+    let none : within 2 4 (control (a .f .now) (a .i)) ≡ false = crosses-or-not (a .e) (control (a .f .now) (a .i)) nothing in
+    rw (nothing, none) (sym (or-false _))
+
+returns-2 : tie.Need-returns-2
+unfolding crossingOk
+returns-2 c = rw (sym (c .before .crosses-nothing .ensures) ∙ c .if1 .left)
 
 pub crossing-ok-spec : {M : Type 1} → statement M
 crossing-ok-spec =
@@ -37,4 +53,5 @@ crossing-ok-spec =
     add-speed
     shared-slice-read-speed
     crosses-nothing-requires
-    returns)
+    returns
+    returns-2)
