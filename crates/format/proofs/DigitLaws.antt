@@ -74,21 +74,19 @@ module _ (t : List ℕ) (i : ℕ) where
   none-at h = rw (drop-of-length-le t {i = i} h)
 
 -- ---- what a scan answers
-pub scanned-end : (c s i : ℕ) (r : List ℕ) → s < 256 → scanned c s i (line [] r) ≡ Whole c s (i + 1)
+pub scanned-end : (c s : ℕ) (r : List ℕ) → s < 256 → scanned c s (line [] r) ≡ Whole c s
 unfolding total scanned
-scanned-end c s i r h =
+scanned-end c s r h =
     let e : c + 0 ≡ c = omega arith in
     let f : (s + 0) % 256 ≡ s = omega arith in
-    let g : i + 0 + 1 ≡ i + 1 = omega arith in
     cc
 
-pub scanned-push : (c s i b : ℕ) (l : Line) → scanned c s i (push b l) ≡ scanned (c + 1) ((s + b) % 256) (i + 2) l
+pub scanned-push : (c s b : ℕ) (l : Line) → scanned c s (push b l) ≡ scanned (c + 1) ((s + b) % 256) l
 unfolding total scanned
-scanned-push c s i b broken = refl
-scanned-push c s i b (line bs r) =
+scanned-push c s b broken = refl
+scanned-push c s b (line bs r) =
     let e : c + suc (length bs) ≡ c + 1 + length bs = omega arith in
     let f : (s + (b + total bs)) % 256 ≡ ((s + b) % 256 + total bs) % 256 = omega arith in
-    let g : i + 2 * suc (length bs) + 1 ≡ i + 2 + 2 * length bs + 1 = omega arith in
     cc
 
 -- ---- bytes that digits spell
@@ -171,45 +169,23 @@ whole-line (suc n) (x ∷ y ∷ t) h d e =
     (line-pair x y t (digit-no-end x (p .0)) (true-and (isDigit x) (isDigit y) (p .0) (q .0))
     ∙ ap (push (16 * digit x + digit y)) (whole-line n t (omega arith) (q .1) (rw f at e)))
 
--- ---- what a scan that finds a line tells
-pub record Scanned (t : List ℕ) (at count sum next : ℕ) (l : Line) : Type 0 where
+-- ---- what a scan tells
+pub record Scanned (count sum : ℕ) (l : Line) : Type 0 where
   pub count-is : length (bytesOf l) ≡ count
   pub sum-is : total (bytesOf l) % 256 ≡ sum
-  pub next-is : next ≡ at + 2 * count + 1
-  pub room : next ≤ length t
-  pub bytes : bytesOf l ≡ spelled count (drop at t)
-  pub rest : restOf l ≡ drop next t
 
-scanned-line : (t : List ℕ) (at count sum next : ℕ) (l : Line) → at ≤ length t → Fronts (drop at t) l
-    → Whole count sum next ≡ scanned 0 0 at l → Scanned t at count sum next l
+pub scan-tells : {count sum : ℕ} (l : Line) → Whole count sum ≡ scanned 0 0 l → Scanned count sum l
 unfolding scanned
-scanned-line t at count sum next broken a p e = let z : _≡_ {A = ℕ} 0 1 = cc in absurd (omega (arith, z))
-scanned-line t at count sum next (line bs r) a p e =
+scan-tells broken e = let z : _≡_ {A = ℕ} 0 1 = cc in absurd (omega (arith, z))
+scan-tells {count} {sum} (line bs r) e =
     let f : count ≡ 0 + length bs = cc in
     let g : sum ≡ (0 + total bs) % 256 = cc in
-    let h : next ≡ at + 2 * length bs + 1 = cc in
-    let c : length bs ≡ count = omega arith in
-    let n : at + (2 * length bs + 1) ≡ next = omega arith in
-    record {
-      count-is = c;
-      sum-is = omega arith;
-      next-is = omega arith;
-      room = omega (arith, p .0, length-drop at t);
-      bytes = rw c at (p .1);
-      rest = p .2 ∙ drop-drop (2 * length bs + 1) at t ∙ ap (λ (k : ℕ). drop k t) n;
-    }
+    record { count-is = omega arith; sum-is = omega arith }
 
-pub scan-tells : {t : List ℕ} {at count sum next : ℕ} → at ≤ length t → Whole count sum next ≡ scanned 0 0 at (lineOf (drop at t))
-    → Scanned t at count sum next (lineOf (drop at t))
-scan-tells {t} {at} {count} {sum} {next} a e = scanned-line t at count sum next (lineOf (drop at t)) a (fronts (drop at t)) e
-
-broken-line : (at : ℕ) (l : Line) → Broken ≡ scanned 0 0 at l → bytesOf l ≡ []
+pub scan-breaks : (l : Line) → Broken ≡ scanned 0 0 l → bytesOf l ≡ []
 unfolding scanned
-broken-line at broken e = refl
-broken-line at (line bs r) e = let z : _≡_ {A = ℕ} 0 1 = cc in absurd (omega (arith, z))
-
-pub scan-breaks : (t : List ℕ) (at : ℕ) → Broken ≡ scanned 0 0 at (lineOf (drop at t)) → bytesOf (lineOf (drop at t)) ≡ []
-scan-breaks t at e = broken-line at (lineOf (drop at t)) e
+scan-breaks broken e = refl
+scan-breaks (line bs r) e = let z : _≡_ {A = ℕ} 0 1 = cc in absurd (omega (arith, z))
 
 -- ---- a line of a known length: its bytes, and the text after it
 spelled-line : (t : List ℕ) (l : Line) → Fronts t l → bytesOf l ≡ spelled (length (bytesOf l)) t

@@ -17,7 +17,7 @@ use Rattle.format.proofs.read.fault_of.Tie as tie
 no-bytes : {t : List ℕ} {at : ℕ} → length (bytesAt t at) ≡ 0 → LineFault t at NotDigits
 no-bytes z = record { answer = λ kind size h. empty-fault kind size 0 _ z }
 
-module _ {t : List ℕ} {at count sum next : ℕ} (s : Scanned t at count sum next (lineOf (drop at t))) (z : count ≡ 0 → ⊥) where
+module _ {t : List ℕ} {at count sum : ℕ} (s : Scanned count sum (lineOf (drop at t))) (z : count ≡ 0 → ⊥) where
   wrong-check : (sum ≡ 0 → ⊥) → LineFault t at WrongCheck
   wrong-check y =
       record { answer = λ kind size h. check-fault kind size 0 _ (λ q. z (sym (s .count-is) ∙ q)) (λ q. y (sym (s .sum-is) ∙ q)) }
@@ -25,11 +25,9 @@ module _ {t : List ℕ} {at count sum next : ℕ} (s : Scanned t at count sum ne
   wrong-length : sum ≡ 0 → LineFault t at WrongFrame
   wrong-length y = record { answer = λ kind size h. size-fault kind size 0 _ (λ q. z (sym (s .count-is) ∙ q)) (s .sum-is ∙ y) h }
 
-scanned-here : (c : tie.After-known-told) → let a = c .before .before .before .before .before .args in let g = c .before .count .given .0 in
-    Scanned (a .text .now) (a .at) (g .0) (g .1 .0) (g .1 .1 .0) (lineOf (drop (a .at) (a .text .now)))
-scanned-here c =
-    scan-tells (c .before .before .before .before .before .pre)
-    (sym (c .before .count .given .1) ∙ c .before .before .before .scan-line .ensures)
+scanned-here : (c : tie.After-known-told) → let a = c .before .before .before .before .before .args in
+    Scanned (c .before .count .given .0 .0) (c .before .count .given .0 .1 .0) (lineOf (drop (a .at) (a .text .now)))
+scanned-here c = scan-tells _ (sym (c .before .count .given .1) ∙ c .before .before .before .scan-line .ensures)
 
 scan-line-requires : tie.Need-scan-line-requires
 scan-line-requires c κs = search needs
@@ -41,7 +39,7 @@ enum-told : tie.Need-enum-told
 enum-told c = search needs
 
 returns : tie.Need-returns
-returns c = no-bytes (ap length (scan-breaks _ _ (sym (c .enum-told .given .1) ∙ c .before .before .scan-line .ensures)))
+returns c = no-bytes (ap length (scan-breaks _ (sym (c .enum-told .given .1) ∙ c .before .before .scan-line .ensures)))
 
 returns-2 : tie.Need-returns-2
 returns-2 c = no-bytes (scanned-here (c .before) .count-is ∙ c .if1 .taken)
