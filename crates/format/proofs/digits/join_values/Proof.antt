@@ -1,12 +1,11 @@
 -- The loop's invariant: the bytes filled so far are the pairs passed, joined (`Filling`).
 -- Assumes nothing.
-use Prim.Native.Nat.{_+_, _*_, _-_}
+use Prim.Native.Nat.{_-_}
 use mathlib.Core.Path.{_∙_}
 use lib.ListN.{length}
 use Rattle.format.specs.Scan.{pairAt}
 use Rattle.format.proofs.DecodeLaws.{Filling, filling-starts, filling-goes-on, filling-ends, pair-here}
 use native.Mathlib.Omega.{arith}
-use borrow.Author.Needs.{needs}
 use Rattle.format.proofs.digits.join_values.Statement.{statement}
 use Rattle.format.proofs.digits.join_values.Tie as tie
 

@@ -11,7 +11,6 @@ use Rattle.format.specs.Edition.{extra, mostFeet}
 use Rattle.format.specs.Frame.{feet, ways, approachB, approachA}
 use Rattle.format.specs.Ranges.{formOk, approachOk, streetOk}
 use Rattle.routes.proofs.Facts.{and-true}
-use native.Mathlib.Omega.{arith}
 use borrow.Author.Needs.{needs}
 use Rattle.format.proofs.ranges.street_ok.Statement.{statement}
 use Rattle.format.proofs.ranges.street_ok.Tie as tie
