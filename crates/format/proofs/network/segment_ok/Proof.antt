@@ -1,11 +1,11 @@
--- The number of a frame's fault is 0 exactly where each test holds, so the code's conjunction is the definition; the legs are claimed last.
+-- The number of a frame's fault is 0 exactly where each test holds, so the code, which stops at the first test that fails, is the definition; the legs are
+-- claimed last.
 -- Assumes nothing.
 use Prim.Native.Nat.{ℕ}
-use mathlib.Core.Bool.{Bool, true, false, _&&_}
+use mathlib.Core.Bool.{Bool, true, false, _&&_, and-false}
 use mathlib.Core.List.{List}
 use mathlib.Core.Path.{_≡_, refl, sym, ap, _∙_}
 use lib.Dec.{eqb}
-use Rattle.routes.proofs.Facts.{and-true}
 use Rattle.format.specs.Edition.{frameBytes}
 use Rattle.format.specs.Ranges.{endsOk, streetOk}
 use Rattle.format.specs.Read.{framed}
@@ -31,12 +31,11 @@ false-and true false x e = refl
 false-and true true x e = true-is-false e refl
 
 module _ {f : List ℕ} {e n s : ℕ} {d : List ℕ} where
-  passes : {d′ : List ℕ} {r : Bool} → (eqb (framed 2 (frameBytes e) f 0) 0 && (endsOk n f && streetOk e f)) ≡ true
+  passes : {d′ : List ℕ} {r : Bool} → eqb (framed 2 (frameBytes e) f 0) 0 ≡ true → streetOk e f ≡ true → endsOk n f ≡ true
       → Claimed f s d d′ r → SegmentChecked f e n s d d′ r
-  passes {d′} {r} x h =
-      let p = and-true (eqb (framed 2 (frameBytes e) f 0) 0) (endsOk n f && streetOk e f) x in
+  passes {d′} {r} x y z h =
       record {
-        answer = h .answer ∙ sym (index-and e n d f ∙ rw (p .0, p .1));
+        answer = h .answer ∙ sym (index-and e n d f ∙ rw (x, z, y));
         index = λ t. h .index ∙ rw (sym (h .answer) ∙ t);
       }
 
@@ -47,50 +46,59 @@ module _ {f : List ℕ} {e n s : ℕ} {d : List ℕ} where
         index = λ t. true-is-false refl t;
       }
 
-tests : (c : tie.After-street-ok) (r : Bool) → (c .before .before .is-framed .result && (c .before .ends-ok .result && c .street-ok .result)) ≡ r
-    → let a = c .before .before .before .before .args in
-    (eqb (framed 2 (frameBytes (a .e)) (a .f .now) 0) 0 && (endsOk (a .n) (a .f .now) && streetOk (a .e) (a .f .now))) ≡ r
-tests c r e =
-    let f = c .before .before .before .before .args .f .now in
-    let s : c .before .before .is-framed .result ≡ eqb (framed 2 (frameBytes (c .before .before .before .before .args .e)) f 0) 0 =
-    c .before .before .is-framed .ensures ∙ ap (λ (m : ℕ). eqb (framed 2 m f 0) 0) (c .before .before .before .before .pre .0) in
-    sym (rw (s, c .before .ends-ok .ensures, c .street-ok .ensures)) ∙ e
+  not-framed : eqb (framed 2 (frameBytes e) f 0) 0 ≡ false → SegmentChecked f e n s d d false
+  not-framed x = fails (rw x)
+
+  no-street : streetOk e f ≡ false → SegmentChecked f e n s d d false
+  no-street y = fails (rw (y, and-false (endsOk n f), and-false (eqb (framed 2 (frameBytes e) f 0) 0)))
+
+  no-ends : endsOk n f ≡ false → SegmentChecked f e n s d d false
+  no-ends z = fails (rw (z, and-false (eqb (framed 2 (frameBytes e) f 0) 0)))
+
+framed-here : (c : tie.After-is-framed) {r : Bool} → c .is-framed .result ≡ r
+    → eqb (framed 2 (frameBytes (c .before .before .args .e)) (c .before .before .args .f .now) 0) 0 ≡ r
+framed-here c g =
+    ap (λ (m : ℕ). eqb (framed 2 m (c .before .before .args .f .now) 0) 0) (sym (c .before .before .pre .0)) ∙ sym (c .is-framed .ensures) ∙ g
 
 is-framed-requires : tie.Need-is-framed-requires
 is-framed-requires c κs = omega (arith, frame-least (c .before .args .e), c .before .pre .0)
 
-ends-ok-requires : tie.Need-ends-ok-requires
-ends-ok-requires c κs = omega (arith, frame-least (c .before .before .args .e), c .before .before .pre .0)
-
 street-ok-requires : tie.Need-street-ok-requires
 street-ok-requires c κs = search needs
 
+ends-ok-requires : tie.Need-ends-ok-requires
+ends-ok-requires c κs = omega (arith, frame-least (c .before .before .before .before .before .args .e), c .before .before .before .before .before .pre .0)
+
 claim-legs-requires : tie.Need-claim-legs-requires
 claim-legs-requires c κs =
-    let a = c .before .before .before .before .before .before .args in
-    let t = and-true (eqb (framed 2 (frameBytes (a .e)) (a .f .now) 0) 0) (endsOk (a .n) (a .f .now) && streetOk (a .e) (a .f .now))
-    (tests (c .before .before) true (c .before .if1 .taken)) in
-    let o = corners-few (a .n) (a .f .now) (c .before .before .before .before .before .before .pre .1)
-    (and-true (endsOk (a .n) (a .f .now)) (streetOk (a .e) (a .f .now)) (t .1) .0) in (
-      omega (arith, frame-least (a .e), c .before .before .before .before .before .before .pre .0),
-      c .before .before .before .before .before .before .pre .2,
-      o .0,
-      o .1,
-    )
+    let start = c .before .before .before .before .before .before .before .before in
+    let a = start .args in
+    let o = corners-few (a .n) (a .f .now) (start .pre .1) (sym (c .before .before .ends-ok .ensures) ∙ c .before .if3 .taken) in
+    (omega (arith, frame-least (a .e), start .pre .0), start .pre .2, o .0, o .1)
 
 returns : tie.Need-returns
-returns c = passes (tests (c .before .before .before) true (c .before .before .if1 .taken)) (c .claim-legs .ensures)
+returns c =
+    passes (framed-here (c .before .before .before .before .before .before .before) (c .before .before .before .before .before .before .if1 .taken)) (sym (c .before .before .before .before .before .street-ok .ensures) ∙ c .before .before .before .before .if2 .taken)
+    (sym (c .before .before .before .ends-ok .ensures) ∙ c .before .before .if3 .taken) (c .claim-legs .ensures)
 
 returns-2 : tie.Need-returns-2
-returns-2 c = fails (tests (c .before) false (c .if1 .left))
+returns-2 c = no-ends (sym (c .before .ends-ok .ensures) ∙ c .if3 .left)
+
+returns-3 : tie.Need-returns-3
+returns-3 c = no-street (sym (c .before .street-ok .ensures) ∙ c .if2 .left)
+
+returns-4 : tie.Need-returns-4
+returns-4 c = not-framed (framed-here (c .before) (c .if1 .left))
 
 pub segment-ok-spec : {M : Type 1} → statement M
 segment-ok-spec =
     tie.close
     (tie.spec
     is-framed-requires
-    ends-ok-requires
     street-ok-requires
+    ends-ok-requires
     claim-legs-requires
     returns
-    returns-2)
+    returns-2
+    returns-3
+    returns-4)

@@ -2,11 +2,11 @@
 -- the index.
 -- Assumes nothing.
 use Prim.Native.Nat.{ℕ}
-use mathlib.Core.Bool.{Bool, true, false, _&&_}
+use mathlib.Core.Bool.{Bool, true, false, _&&_, and-false}
 use mathlib.Core.List.{List}
-use mathlib.Core.Path.{_≡_, refl, sym, _∙_, subst, subst₂}
+use mathlib.Core.Path.{_≡_, refl, sym, _∙_, subst}
 use lib.ListN.{length}
-use Rattle.routes.proofs.Facts.{and-true}
+use Rattle.routes.proofs.Facts.{true-and}
 use Rattle.format.specs.declared.Fault.the-variants.{WrongField, WrongCount, LegTaken}
 use Rattle.format.specs.declared.read.LineRead.the-variants.{Frame, Faulty}
 use Rattle.format.specs.Edition.{frameBytes}
@@ -40,57 +40,57 @@ module _ {f : List ℕ} {next e n : ℕ} {more : Bool} {s : ℕ} {d : List ℕ} 
         let z : indexFault e n more d f ≡ 0 = framed-good 2 (frameBytes e) _ f w ∙ rw (m, o, sym (h .answer)) in
         record { answer = (z, refl); index = h .index ∙ rw (z, sym (h .answer)) }
 
-fields : (c : tie.After-street-ok) (r : Bool) → (c .before .ends-ok .result && c .street-ok .result) ≡ r
-    → let a = c .before .before .before .before .args in (endsOk (a .n) (a .frame .now) && streetOk (a .e) (a .frame .now)) ≡ r
-fields c r e = subst₂ (λ (a b : Bool). (a && b) ≡ r) (c .before .ends-ok .ensures) (c .street-ok .ensures) e
-
 long : (c : tie.Start) → length (c .args .frame .now) ≡ frameBytes (c .args .e)
 long c = framed-has 2 (frameBytes (c .args .e)) (c .args .frame .now) 0 (c .pre .0) .long
 
-ends-ok-requires : tie.Need-ends-ok-requires
-ends-ok-requires c κs = omega (arith, long (c .before .before), frame-least (c .before .before .args .e))
+fields : (n e : ℕ) (f : List ℕ) {a b : Bool} → b ≡ streetOk e f → b ≡ true → a ≡ endsOk n f → a ≡ true → (endsOk n f && streetOk e f) ≡ true
+fields n e f p q r t = true-and (endsOk n f) (streetOk e f) (sym r ∙ t) (sym p ∙ q)
 
 street-ok-requires : tie.Need-street-ok-requires
-street-ok-requires c κs = omega (arith, long (c .before .before .before))
+street-ok-requires c κs = omega (arith, long (c .before .before))
+
+ends-ok-requires : tie.Need-ends-ok-requires
+ends-ok-requires c κs = omega (arith, long (c .before .before .before .before), frame-least (c .before .before .before .before .args .e))
 
 claim-legs-requires : tie.Need-claim-legs-requires
 claim-legs-requires c κs =
-    let start = c .before .before .before .before .before .before in
+    let start = c .before .before .before .before .before .before .before in
     let a = start .args in
-    let good = and-true (endsOk (a .n) (a .frame .now)) (streetOk (a .e) (a .frame .now)) (fields (c .before .before) true (c .before .if2 .taken)) in
-    let below = corners-few (a .n) (a .frame .now) (start .pre .1) (good .0) in
-    (omega (arith, long start, frame-least (a .e)), start .pre .2 (c .before .before .before .before .if1 .taken), below .0, below .1)
+    let below = corners-few (a .n) (a .frame .now) (start .pre .1) (sym (c .before .before .ends-ok .ensures) ∙ c .before .if3 .taken) in
+    (omega (arith, long start, frame-least (a .e)), start .pre .2 (c .before .before .before .before .before .if1 .taken), below .0, below .1)
 
 returns : tie.Need-returns
 returns c =
-    no-fault (c .before .before .before .before .before .before .before .before .pre .0)
-    (c .before .before .before .before .before .before .if1 .taken)
-    (fields (c .before .before .before .before) true (c .before .before .before .if2 .taken))
-    (rw (c .if3 .taken) at (c .before .claim-legs .ensures))
+    no-fault (c .before .before .before .before .before .before .before .before .before .pre .0) (c .before .before .before .before .before .before .before .if1 .taken)
+    (fields _ _ _ (c .before .before .before .before .before .before .street-ok .ensures) (c .before .before .before .before .before .if2 .taken) (c .before .before .before .before .ends-ok .ensures) (c .before .before .before .if3 .taken))
+    (rw (c .if4 .taken) at (c .before .claim-legs .ensures))
 
 returns-2 : tie.Need-returns-2
 returns-2 c =
-    leg-taken (c .before .before .before .before .before .before .before .before .pre .0)
-    (c .before .before .before .before .before .before .if1 .taken)
-    (fields (c .before .before .before .before) true (c .before .before .before .if2 .taken))
-    (rw (c .if3 .left) at (c .before .claim-legs .ensures))
+    leg-taken (c .before .before .before .before .before .before .before .before .before .pre .0) (c .before .before .before .before .before .before .before .if1 .taken)
+    (fields _ _ _ (c .before .before .before .before .before .before .street-ok .ensures) (c .before .before .before .before .before .if2 .taken) (c .before .before .before .before .ends-ok .ensures) (c .before .before .before .if3 .taken))
+    (rw (c .if4 .left) at (c .before .claim-legs .ensures))
 
 returns-3 : tie.Need-returns-3
 returns-3 c =
-    wrong-field (c .before .before .before .before .before .pre .0) (c .before .before .before .if1 .taken)
-    (fields (c .before) false (c .if2 .left))
+    wrong-field (c .before .before .before .before .before .before .pre .0) (c .before .before .before .before .if1 .taken) (rw (sym (c .before .ends-ok .ensures) ∙ c .if3 .left))
 
 returns-4 : tie.Need-returns-4
-returns-4 c = beyond (c .before .before .pre .0) (c .if1 .left)
+returns-4 c =
+    wrong-field (c .before .before .before .before .pre .0) (c .before .before .if1 .taken) (rw (sym (c .before .street-ok .ensures) ∙ c .if2 .left, and-false))
+
+returns-5 : tie.Need-returns-5
+returns-5 c = beyond (c .before .before .pre .0) (c .if1 .left)
 
 pub judge-frame-spec : {M : Type 1} → statement M
 judge-frame-spec =
     tie.close
     (tie.spec
-    ends-ok-requires
     street-ok-requires
+    ends-ok-requires
     claim-legs-requires
     returns
     returns-2
     returns-3
-    returns-4)
+    returns-4
+    returns-5)
