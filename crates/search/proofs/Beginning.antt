@@ -18,7 +18,7 @@ use Rattle.queue.specs.Queue.{top, at, keyOf, Queue, Empty}
 use Rattle.search.specs.Keys.{labelKey}
 use Rattle.search.specs.Labels.{Cleared, LabelWritten}
 use Rattle.search.specs.Begin.{Seed, idle, first, firstLabel, Begun}
-use Rattle.search.specs.Queued.{Queued}
+use Rattle.search.specs.Queued.{noneSpent, Queued}
 use Rattle.search.specs.Search.{Fair, Settled}
 
 -- ---- no labels
@@ -158,14 +158,14 @@ module _ {w : Graph} {exits : List ℕ} {place : ℕ} {best previous tree : List
       }
 
 pub started-queued : {w : Graph} {exits : List ℕ} {place i : ℕ} {best previous tree : List ℕ} → Started w exits place i best previous tree
-    → Queued best tree (w .size) 0
+    → Queued noneSpent best tree (w .size) 0
 started-queued {w} {best = best} {tree = tree} S =
     record {
       queue = S .queue;
       every = λ r l h d.
           ⊎-elim
           (λ (s : Blank best tree (w .size) r). absurd (omega (arith, s .0)))
-          (λ (s : Sown w best tree r). omega (arith, s .label, s .queued))
+          (λ (s : Sown w best tree r). inl (omega (arith, s .label, s .queued)))
           (S .each r l);
       only = λ r l d.
           ⊎-elim

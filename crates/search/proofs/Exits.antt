@@ -1,29 +1,22 @@
--- The eight exits of a corner are offered one after the other; an exit may be free, and a run may stand at more than one. After each offer every run is
--- as it was before the round, or has got its label by way of u; and of those runs without a label to which an edge leads, each that stood at an exit
--- already passed has got it. A run that is visited again is labelled and stays. Every edge from u leads to a run at one of the eight, so after the
--- last offer every edge is relaxed.
+-- Entries of the corner index are offered one after the other; an entry may be free, and a run may stand at more than one. After each offer every run is
+-- as it was before the round, or has got its label by way of u; and of those runs without a label to which an edge leads, each that stood at an entry
+-- already passed has got it. A run that is visited again is labelled and stays. Where every run without a label to which an edge leads stands at one
+-- of the entries, every edge is relaxed after the last offer. Of how many entries that is true, none, one or seven, is no matter here.
 -- Assumes nothing.
 use mathlib.Core.Path.{_≡_, refl, sym, _∙_, ap}
 use mathlib.Core.Bool.{Bool, true, true≢false}
 use mathlib.Core.List.{List}
 use mathlib.Core.Logic.{_⊎_, inl, inr, ⊎-elim}
-use Prim.Native.Nat.{ℕ, _+_, _*_, _≤_, _<_}
+use Prim.Native.Nat.{ℕ, _+_, _≤_, _<_}
 use native.Mathlib.Nat.{not-suc-le-zero}
 use native.Mathlib.Numerals.{add-one}
 use native.Mathlib.Omega.{arith}
 use lib.ListN.{length, set, length-set}
 use lib.Seq.{getD-set-same, getD-set-other}
-use Rattle.routes.specs.Streets.{Streets}
-use Rattle.routes.specs.Labels.{unlabelled, edgeOf}
+use Rattle.routes.specs.Labels.{unlabelled}
 use Rattle.routes.proofs.Facts.{eq-or-ne, last-or-below}
-use Rattle.routes.proofs.Walks.{true-edge}
 use Rattle.queue.specs.Queue.{at}
-use Rattle.search.specs.Relax.{Visit, kept, barred, labelled, Exits, Offer, free, leads, Relaxed}
-
--- exits that hold for a relation hold for the part of it that a tolerance leaves
-pub exits-within : (g : Streets) (t : ℕ) {exits : List ℕ} {n : ℕ} → Exits (g .finish) (g .joins) exits n → Exits (g .finish) (edgeOf g t) exits n
-exits-within g t E =
-    record { every = λ p r l k e. E .every p r l k (true-edge g t p r e .joined) }
+use Rattle.search.specs.Relax.{Visit, kept, barred, labelled, Offer, free, leads, Relaxed}
 
 -- q is as it was
 abbrev pub Same : List ℕ → List ℕ → List ℕ → List ℕ → ℕ → Type 0
@@ -36,35 +29,35 @@ pub record Got (edge : ℕ → ℕ → Bool) (feet : ℕ → ℕ) (u base : ℕ)
   pub label : at best q ≡ base + feet q
   pub before : at previous q ≡ u
 
--- the first i entries from the place `from` on were offered
-pub record Offered (edge : ℕ → ℕ → Bool) (feet : ℕ → ℕ) (u base : ℕ) (exits : List ℕ) (from i : ℕ) (best₀ previous₀ best previous : List ℕ) : Type 0 where
+-- the first i entries were offered
+pub record Offered (edge : ℕ → ℕ → Bool) (feet : ℕ → ℕ) (u base : ℕ) (entry : ℕ → ℕ) (i : ℕ) (best₀ previous₀ best previous : List ℕ) : Type 0 where
   pub long : length best ≡ length best₀
   pub long′ : length previous ≡ length previous₀
   pub each : (q : ℕ) → Same best₀ previous₀ best previous q ⊎ Got edge feet u base best₀ best previous q
-  pub passed : (leg : ℕ) → leg < i → (q : ℕ) → at exits (from + leg) ≡ q + 1 → unlabelled ≤ at best₀ q → edge u q ≡ true
+  pub passed : (k : ℕ) → k < i → (q : ℕ) → entry k ≡ q + 1 → unlabelled ≤ at best₀ q → edge u q ≡ true
       → Got edge feet u base best₀ best previous q
 
-pub offered-none : (edge : ℕ → ℕ → Bool) (feet : ℕ → ℕ) (u base : ℕ) (exits : List ℕ) (from : ℕ) (best previous : List ℕ)
-    → Offered edge feet u base exits from 0 best previous best previous
-offered-none edge feet u base exits from best previous =
-    record { long = refl; long′ = refl; each = λ q. inl (refl, refl); passed = λ leg l. absurd (not-suc-le-zero l) }
+pub offered-none : (edge : ℕ → ℕ → Bool) (feet : ℕ → ℕ) (u base : ℕ) (entry : ℕ → ℕ) (best previous : List ℕ)
+    → Offered edge feet u base entry 0 best previous best previous
+offered-none edge feet u base entry best previous =
+    record { long = refl; long′ = refl; each = λ q. inl (refl, refl); passed = λ k l. absurd (not-suc-le-zero l) }
 
-module _ {edge : ℕ → ℕ → Bool} {feet : ℕ → ℕ} {u base : ℕ} {exits : List ℕ} {from i : ℕ} {best₀ previous₀ best previous : List ℕ}
-    (S : Offered edge feet u base exits from i best₀ previous₀ best previous) where
+module _ {edge : ℕ → ℕ → Bool} {feet : ℕ → ℕ} {u base : ℕ} {entry : ℕ → ℕ} {i : ℕ} {best₀ previous₀ best previous : List ℕ}
+    (S : Offered edge feet u base entry i best₀ previous₀ best previous) where
   -- an offer that changes nothing
   idle : {best′ previous′ : List ℕ}
-      → ((q : ℕ) → at exits (from + i) ≡ q + 1 → unlabelled ≤ at best₀ q → edge u q ≡ true → Got edge feet u base best₀ best previous q)
-      → best′ ≡ best → previous′ ≡ previous → Offered edge feet u base exits from (i + 1) best₀ previous₀ best′ previous′
+      → ((q : ℕ) → entry i ≡ q + 1 → unlabelled ≤ at best₀ q → edge u q ≡ true → Got edge feet u base best₀ best previous q)
+      → best′ ≡ best → previous′ ≡ previous → Offered edge feet u base entry (i + 1) best₀ previous₀ best′ previous′
   idle here e e′ =
       rw (e, e′)
       (record {
         long = S .long;
         long′ = S .long′;
         each = S .each;
-        passed = λ leg l q x.
+        passed = λ k l q x.
             ⊎-elim
-            (λ (h : leg ≡ i). here q (rw h at x))
-            (λ (h : leg < i). S .passed leg h q x)
+            (λ (h : k ≡ i). here q (rw h at x))
+            (λ (h : k < i). S .passed k h q x)
             (last-or-below (rw add-one at l));
       })
 
@@ -85,7 +78,7 @@ module _ {edge : ℕ → ℕ → Bool} {feet : ℕ → ℕ} {u base : ℕ} {exit
       (S .each q)
 
   -- an offer that labels r
-  module _ (r : ℕ) (whose : at exits (from + i) ≡ r + 1) (inside : r < length best₀) (inside′ : r < length previous₀) (none : unlabelled ≤ at best r)
+  module _ (r : ℕ) (whose : entry i ≡ r + 1) (inside : r < length best₀) (inside′ : r < length previous₀) (none : unlabelled ≤ at best r)
       (leads-to : edge u r ≡ true) where
     own : Got edge feet u base best₀ (set best r (base + feet r)) (set previous r u) r
     own =
@@ -107,7 +100,7 @@ module _ {edge : ℕ → ℕ → Bool} {feet : ℕ → ℕ} {u base : ℕ} {exit
         record { none = s .none; edge-to = s .edge-to; label = other q e .0 ∙ s .label; before = other q e .1 ∙ s .before })
         (eq-or-ne q r)
 
-    labels : Offered edge feet u base exits from (i + 1) best₀ previous₀ (set best r (base + feet r)) (set previous r u)
+    labels : Offered edge feet u base entry (i + 1) best₀ previous₀ (set best r (base + feet r)) (set previous r u)
     labels =
         record {
           long = simp length-set (S .long);
@@ -121,17 +114,17 @@ module _ {edge : ℕ → ℕ → Bool} {feet : ℕ → ℕ} {u base : ℕ} {exit
               (eq-or-ne q r))
               (λ (s : Got edge feet u base best₀ best previous q). inr (stays q s))
               (S .each q);
-          passed = λ leg l q x h e.
+          passed = λ k l q x h e.
               ⊎-elim
-              (λ (k : leg ≡ i).
-              let f : q ≡ r = omega (arith, whose, rw k at x) in
+              (λ (j : k ≡ i).
+              let f : q ≡ r = omega (arith, whose, rw j at x) in
               rw f own)
-              (λ (k : leg < i). stays q (S .passed leg k q x h e))
+              (λ (j : k < i). stays q (S .passed k j q x h e))
               (last-or-below (rw add-one at l));
         }
 
-  visited : {best′ previous′ : List ℕ} (r : ℕ) → at exits (from + i) ≡ r + 1 → r < length best₀ → r < length previous₀
-      → Visit edge feet u base r best previous best′ previous′ → Offered edge feet u base exits from (i + 1) best₀ previous₀ best′ previous′
+  visited : {best′ previous′ : List ℕ} (r : ℕ) → entry i ≡ r + 1 → r < length best₀ → r < length previous₀
+      → Visit edge feet u base r best previous best′ previous′ → Offered edge feet u base entry (i + 1) best₀ previous₀ best′ previous′
   visited r x l l′ (kept h e e′) =
       idle
       (λ q y none s.
@@ -147,16 +140,16 @@ module _ {edge : ℕ → ℕ → Bool} {feet : ℕ → ℕ} {u base : ℕ} {exit
   visited r x l l′ (labelled h s e e′) = rw (e, e′) (labels r x l l′ h s)
 
   -- one offer more
-  pub offered-more : {best′ previous′ : List ℕ} {n : ℕ} → at exits (from + i) ≤ n → n ≤ length best₀ → n ≤ length previous₀
-      → Offer edge feet u base (at exits (from + i)) best previous best′ previous′ → Offered edge feet u base exits from (i + 1) best₀ previous₀ best′ previous′
+  pub offered-more : {best′ previous′ : List ℕ} {n : ℕ} → ((r : ℕ) → entry i ≡ r + 1 → r < n) → n ≤ length best₀ → n ≤ length previous₀
+      → Offer edge feet u base (entry i) best previous best′ previous′ → Offered edge feet u base entry (i + 1) best₀ previous₀ best′ previous′
   offered-more l f f′ (free z e e′) = idle (λ q x. absurd (omega (arith, x, z))) e e′
-  offered-more l f f′ (leads {r} v x) = visited r x (omega arith) (omega arith) v
+  offered-more l f f′ (leads {r} v x) = visited r x (omega (arith, l r x)) (omega (arith, l r x)) v
 
--- all eight were offered: every edge from u is relaxed
-pub offered-all : {finish : ℕ → ℕ} {edge : ℕ → ℕ → Bool} {feet : ℕ → ℕ} {n u base : ℕ} {exits best₀ previous₀ best previous : List ℕ}
-    → Exits finish edge exits n → u < n → Offered edge feet u base exits (finish u * 8) 8 best₀ previous₀ best previous
-    → Relaxed edge feet n u base best₀ previous₀ best previous
-offered-all {finish} {edge} {feet} {n} {u} {base} {exits} {best₀} {previous₀} {best} {previous} E inside S =
+-- all were offered: every edge from u is relaxed
+pub offered-all : {edge : ℕ → ℕ → Bool} {feet : ℕ → ℕ} {n u base : ℕ} {entry : ℕ → ℕ} {i : ℕ} {best₀ previous₀ best previous : List ℕ}
+    → ((r : ℕ) → r < n → unlabelled ≤ at best₀ r → edge u r ≡ true → (k : ℕ) × (k < i) × (entry k ≡ r + 1))
+    → Offered edge feet u base entry i best₀ previous₀ best previous → Relaxed edge feet n u base best₀ previous₀ best previous
+offered-all {edge} {feet} {n} {u} {base} {entry} {i} {best₀} {previous₀} {best} {previous} every S =
     record {
       kept = λ r l h.
           ⊎-elim
@@ -169,7 +162,22 @@ offered-all {finish} {edge} {feet} {n} {u} {base} {exits} {best₀} {previous₀
           (λ (s : Got edge feet u base best₀ best previous r). absurd (true≢false (sym (s .edge-to) ∙ e)))
           (S .each r);
       labelled = λ r l h e.
-          let x = E .every u r inside l e in
+          let x = every r l h e in
           let s = S .passed (x .0) (x .1) r (x .2) h e in
           (s .label, s .before);
     }
+
+-- no edge leads to a run without a label
+pub relaxed-none : {edge : ℕ → ℕ → Bool} {feet : ℕ → ℕ} {n u base : ℕ} {best previous : List ℕ}
+    → ((r : ℕ) → r < n → unlabelled ≤ at best r → edge u r ≡ true → ⊥) → Relaxed edge feet n u base best previous best previous
+relaxed-none {edge} {feet} {n} {u} {base} {best} {previous} none =
+    offered-all (λ r l h e. absurd (none r l h e)) (offered-none edge feet u base (λ (k : ℕ). 0) best previous)
+
+-- edges lead to the run behind one entry at most
+pub relaxed-one : {edge : ℕ → ℕ → Bool} {feet : ℕ → ℕ} {n u base entry : ℕ} {best previous best′ previous′ : List ℕ}
+    → ((r : ℕ) → r < n → unlabelled ≤ at best r → edge u r ≡ true → entry ≡ r + 1) → ((r : ℕ) → entry ≡ r + 1 → r < n)
+    → n ≤ length best → n ≤ length previous → Offer edge feet u base entry best previous best′ previous′
+    → Relaxed edge feet n u base best previous best′ previous′
+relaxed-one {edge} {feet} {n} {u} {base} {entry} {best} {previous} every inside l l′ O =
+    offered-all (λ r k h e. (0, omega arith, every r k h e))
+    (offered-more (offered-none edge feet u base (λ (k : ℕ). entry) best previous) inside l l′ O)

@@ -1,7 +1,8 @@
 -- The heart of the search. The run u that is settled next has the least key m among those not settled. A run r that has a label already got it from a
 -- run that was settled before u, so its label is at most best u + feet r: the first label that a run gets is its best one, and L2 holds for u too. A
 -- run that gets its label now has one above best u, since feet are at least 1, so its key is above m and nothing that is settled changes. After the
--- round u is settled as well, and where no key lies between m + 1 and the next key the invariant may be read at the next key.
+-- round u is settled as well. Between m + 1 and the next key lie only keys of spent runs. From such a run every edge leads to a run that has a label, and
+-- again has it from one that was settled before, so L2 holds for the spent run too, and the invariant may be read at the next key.
 -- Assumes nothing.
 use mathlib.Core.Path.{_≡_, sym, _∙_, ap}
 use mathlib.Core.Bool.{Bool, true, false, true≢false}
@@ -19,7 +20,7 @@ use Rattle.queue.specs.Queue.{top, at}
 use Rattle.search.specs.Keys.{labelIn, runIn, key, IsKey}
 use Rattle.search.specs.Relax.{Relaxed}
 use Rattle.search.specs.Queued.{Least}
-use Rattle.search.specs.Search.{Fair, Settled, NoGoal}
+use Rattle.search.specs.Search.{Fair, Settled, Spent, NoGoal}
 
 pub fair-paved : (w : Graph) {most : ℕ} → Fair (w .size) (w .feet) most → Paved w
 fair-paved w F = record { small = omega (arith, F .small); long = F .long }
@@ -35,20 +36,35 @@ module _ {w : Graph} {best previous : List ℕ} {m : ℕ} (I : Settled w best pr
   settled-labels F =
       record { sources = I .sources; whence = I .whence; edges = λ p r l h b. I .edges p r l (omega (arith, F .small)) }
 
-  -- where no key lies between m and k, what is settled below m is settled below k
-  pub settled-skip : {k : ℕ} → Least best (w .size) m k → Settled w best previous k
-  settled-skip {k} L =
+  -- a label that a run settled before, or a source, has given is at most what a run not settled yet would give
+  label-no-worse : {most : ℕ} → Fair (w .size) (w .feet) most → (p r : ℕ) → p < w .size → m ≤ key best p → r < w .size → at best r < unlabelled
+      → at best r ≤ at best p + w .feet r
+  label-no-worse F p r l s l′ d =
+      ⊎-elim
+      (λ (f : First w (at best) (at previous) r). omega (arith, f .exact))
+      (λ (f : Next w (at best) (at previous) r (at previous r)). omega (arith, f .exact, I .earlier r l′ d (f .inside), F .small))
+      (I .whence r l′ d)
+
+  -- where only keys of spent runs lie between m and k, what is settled below m is settled below k
+  pub settled-skip : {goal spent : ℕ → Bool} {k most : ℕ} → Fair (w .size) (w .feet) most → Spent w goal spent best → Least spent best (w .size) m k
+      → Settled w best previous k
+  settled-skip {spent = spent} {k = k} F C L =
       record {
         bounded = L .bounded;
         sources = I .sources;
         whence = I .whence;
         earlier = λ r l h j. omega (arith, I .earlier r l h j, L .from);
-        edges = λ p r l h.
-            I .edges p r l
-            (⊎-elim
-            (λ (s : key best p < m). s)
-            (λ (s : m ≤ key best p). absurd (omega (arith, L .least p l s)))
-            (lt-or-ge (key best p) m));
+        edges = λ p r l h l′ e.
+            ⊎-elim
+            (λ (s : key best p < m). I .edges p r l s l′ e)
+            (λ (s : m ≤ key best p).
+            ⊎-elim
+            (λ (j : k ≤ key best p). absurd (omega arith))
+            (λ (j : spent p ≡ true).
+            let d = C .closed p r l j l′ e in
+            (d, label-no-worse F p r l s l′ d))
+            (L .least p l s))
+            (lt-or-ge (key best p) m);
       }
 
 -- how many runs are settled, and how many are not
@@ -173,8 +189,8 @@ module _ {w : Graph} {best previous best′ previous′ : List ℕ} {m most : �
       }
 
   -- one run more is settled than before
-  pub settled-less : {m′ : ℕ} → Least best′ (w .size) (m + 1) m′ → unsettled best′ (w .size) m′ < unsettled best (w .size) m
-  settled-less {m′} L =
+  pub settled-less : {spent : ℕ → Bool} {m′ : ℕ} → Least spent best′ (w .size) (m + 1) m′ → unsettled best′ (w .size) m′ < unsettled best (w .size) m
+  settled-less {m′ = m′} L =
       omega (
         arith,
         count-less (λ (r : ℕ). ltb (key best r) m) (λ (r : ℕ). ltb (key best′ r) m′) (w .size)
@@ -187,12 +203,16 @@ module _ {w : Graph} {best previous best′ previous′ : List ℕ} {m most : �
       )
 
   -- where the run that is settled is no goal, still no settled run is
-  pub no-goal-more : {goal : ℕ → Bool} {m′ : ℕ} → Least best′ (w .size) (m + 1) m′ → goal (runIn m) ≡ false → NoGoal goal best (w .size) m
-      → NoGoal goal best′ (w .size) m′
-  no-goal-more {goal} {m′} L e N r l h t =
+  pub no-goal-more : {goal spent : ℕ → Bool} {m′ : ℕ} → Spent w goal spent best′ → Least spent best′ (w .size) (m + 1) m′ → goal (runIn m) ≡ false
+      → NoGoal goal best (w .size) m → NoGoal goal best′ (w .size) m′
+  no-goal-more {goal} {spent} {m′} C L e N r l h t =
       let k : key best′ r < m + 1 =
       ⊎-elim
       (λ (s : key best′ r < m + 1). s)
-      (λ (s : m + 1 ≤ key best′ r). absurd (omega (arith, L .least r l s)))
+      (λ (s : m + 1 ≤ key best′ r).
+      ⊎-elim
+      (λ (j : m′ ≤ key best′ r). absurd (omega arith))
+      (λ (j : spent r ≡ true). absurd (true≢false (sym t ∙ C .aside r l j)))
+      (L .least r l s))
       (lt-or-ge (key best′ r) (m + 1)) in
       ⊎-elim (λ (s : key best r < m). N r l s t) (λ (s : r ≡ runIn m). true≢false (sym t ∙ ap goal s ∙ e)) (settled-or-next r l k)

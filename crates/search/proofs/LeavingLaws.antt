@@ -47,10 +47,10 @@ module _ {net : List ℕ} {r : ℕ} (R : RunOf net r) where
   placed : SegmentAt net (segmentOf r) (7 + frameBytes (getD net 1 0) * segmentOf r)
   placed = segment-placed (segment-of-run R) (frameBytes (getD net 1 0)) refl
 
-  start-below : start net r < nodesOf net
+  pub start-below : start net r < nodesOf net
   start-below = let N = start-node R placed _ refl in omega (arith, N .is, N .below)
 
-  leaving-below : leavingLeg net r < 8
+  pub leaving-below : leavingLeg net r < 8
   leaving-below = let L = leaving-leg-is R placed _ refl in omega (arith, L .is, L .below)
 
   leaves-by-corner : LeavesBy net r (corner (start net r) (leavingLeg net r))
@@ -106,12 +106,15 @@ module _ (net : List ℕ) {index : List ℕ} (is : isNetwork net ≡ true) (I : 
             record { inside = R .inside; from = sym (same .0); by = sym (same .1) };
       }
 
-  -- a run that leaves a node is at one of its eight entries
-  pub leaving-entry : {r : ℕ} → RunOf net r → (node : ℕ) → start net r ≡ node → (leg : ℕ) × (leg < 8) × (at index (node * 8 + leg) ≡ r + 1)
-  leaving-entry {r} R node e = (leavingLeg net r, leaving-below R, rw e at here)
+  -- a run is at the entry of the leg that it leaves by, one of the node's eight
+  pub leaving-at : {r : ℕ} → RunOf net r → {node leg : ℕ} → start net r ≡ node → leavingLeg net r ≡ leg → at index (node * 8 + leg) ≡ r + 1
+  leaving-at {r} R e f = rw (e, f) at here
     where
       here : at index (start net r * 8 + leavingLeg net r) ≡ r + 1
       here =
           index-entry (start net r) (leavingLeg net r) (start-below R) (leaving-below R)
           ∙ run-leaves net is (leaves-by-corner R)
           ∙ omega arith
+
+  pub leaving-entry : {r : ℕ} → RunOf net r → (node : ℕ) → start net r ≡ node → (leg : ℕ) × (leg < 8) × (at index (node * 8 + leg) ≡ r + 1)
+  leaving-entry {r} R node e = (leavingLeg net r, leaving-below R, leaving-at R e refl)

@@ -1,49 +1,54 @@
 -- The rounds in sequence. Before each round the record `Search` holds at the next key m; a round that settles a run which is no goal leads to the same
 -- at the key after it, with one run fewer to settle. The search stops when the next run is a goal, or when no labelled run is left.
 -- Assumes nothing.
-use mathlib.Core.Path.{_≡_}
-use mathlib.Core.Bool.{Bool, true, false}
+use mathlib.Core.Path.{_≡_, sym, _∙_}
+use mathlib.Core.Bool.{Bool, true, false, true≢false}
 use mathlib.Core.List.{List}
+use mathlib.Core.Logic.{⊎-elim}
 use Prim.Native.Nat.{ℕ, _≤_, _<_}
 use native.Mathlib.Omega.{arith}
 use lib.ListN.{length}
 use Rattle.routes.specs.Labels.{Graph}
 use Rattle.queue.specs.Queue.{top, Front}
-use Rattle.search.specs.Keys.{runIn, IsKey}
+use Rattle.search.specs.Keys.{runIn, key, IsKey}
 use Rattle.search.specs.Begin.{Begun}
 use Rattle.search.specs.Queued.{Queued}
-use Rattle.search.specs.Search.{Fair, Settled, Due, Round, NoGoal, Stop}
+use Rattle.search.specs.Search.{Fair, Settled, Spent, Due, Round, NoGoal, Stop}
 use Rattle.search.proofs.Beginning.{settled-none}
 use Rattle.search.proofs.Invariant.{unsettled, label-room, settled-labels, settled-skip, settled-more, settled-less, no-goal-more}
 use Rattle.search.proofs.Queueing.{queued-least, queued-skip}
 
 -- the search before the run with the key m is settled
-pub record Search (w : Graph) (goal : ℕ → Bool) (best previous tree : List ℕ) (m : ℕ) : Type 0 where
+pub record Search (w : Graph) (goal spent : ℕ → Bool) (best previous tree : List ℕ) (m : ℕ) : Type 0 where
   pub settled : Settled w best previous m
   pub whose : m < top → IsKey best (w .size) m
   pub long : w .size ≤ length best
   pub long′ : w .size ≤ length previous
-  pub queued : Queued best tree (w .size) m
+  pub queued : Queued spent best tree (w .size) m
   pub none : NoGoal goal best (w .size) m
 
-pub search-begins : {w : Graph} {best previous tree : List ℕ} {m most : ℕ} (goal : ℕ → Bool) → Fair (w .size) (w .feet) most
-    → Begun w best previous → w .size ≤ length best → w .size ≤ length previous → Queued best tree (w .size) 0 → Front tree (w .size) m
-    → Search w goal best previous tree m
-search-begins goal F B l l′ Q N =
+pub search-begins : {w : Graph} {goal spent : ℕ → Bool} {best previous tree : List ℕ} {m most : ℕ} → Fair (w .size) (w .feet) most → Spent w goal spent best
+    → Begun w best previous → w .size ≤ length best → w .size ≤ length previous → Queued spent best tree (w .size) 0 → Front tree (w .size) m
+    → Search w goal spent best previous tree m
+search-begins {w} {goal} {spent} {best} {m = m} F C B l l′ Q N =
     let L = queued-least (F .small) Q (omega arith) N in
     record {
-      settled = settled-skip (settled-none F B) L;
+      settled = settled-skip (settled-none F B) F C L;
       whose = L .whose;
       long = l;
       long′ = l′;
-      queued = queued-skip Q L;
-      none = λ r i h e. omega (arith, L .least r i (omega arith));
+      queued = queued-skip Q L N;
+      none = λ r i h e.
+          ⊎-elim
+          (λ (j : m ≤ key best r). absurd (omega arith))
+          (λ (j : spent r ≡ true). absurd (true≢false (sym e ∙ C .aside r i j)))
+          (L .least r i (omega arith));
     }
 
-module _ {w : Graph} {goal : ℕ → Bool} {best previous tree : List ℕ} {m most : ℕ} (F : Fair (w .size) (w .feet) most)
-    (S : Search w goal best previous tree m) where
+module _ {w : Graph} {goal spent : ℕ → Bool} {best previous tree : List ℕ} {m most : ℕ} (F : Fair (w .size) (w .feet) most)
+    (S : Search w goal spent best previous tree m) where
   -- where a labelled run is left, the next one is due
-  pub search-due : m < top → Due (w .size) most m best previous tree
+  pub search-due : m < top → Due (w .size) most m spent best previous tree
   search-due l =
       let K = S .whose l in
       record {
@@ -72,16 +77,17 @@ module _ {w : Graph} {goal : ℕ → Bool} {best previous tree : List ℕ} {m mo
       }
 
   -- it is settled
-  module _ {best′ previous′ tree′ : List ℕ} {m′ : ℕ} (l : m < top) (R : Round (w .edge) (w .feet) (w .size) m best previous best′ previous′ tree′ m′) where
-    pub search-more : goal (runIn m) ≡ false → Search w goal best′ previous′ tree′ m′
-    search-more e =
+  module _ {spent′ : ℕ → Bool} {best′ previous′ tree′ : List ℕ} {m′ : ℕ} (l : m < top)
+      (R : Round (w .edge) (w .feet) (w .size) m spent′ best previous best′ previous′ tree′ m′) where
+    pub search-more : Spent w goal spent′ best′ → goal (runIn m) ≡ false → Search w goal spent′ best′ previous′ tree′ m′
+    search-more C e =
         record {
-          settled = settled-skip (settled-more F (S .settled) l (S .whose l) (R .relaxed)) (R .next);
+          settled = settled-skip (settled-more F (S .settled) l (S .whose l) (R .relaxed)) F C (R .next);
           whose = R .next .whose;
           long = R .long;
           long′ = R .long′;
           queued = R .queued;
-          none = no-goal-more F (S .settled) l (S .whose l) (R .relaxed) (R .next) e (S .none);
+          none = no-goal-more F (S .settled) l (S .whose l) (R .relaxed) C (R .next) e (S .none);
         }
 
     pub search-less : unsettled best′ (w .size) m′ < unsettled best (w .size) m

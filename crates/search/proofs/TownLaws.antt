@@ -1,25 +1,20 @@
--- A kept network is a graph that the search takes: a run has 1 to 52,800 feet, and 2,000 such runs fit a label. The runs onto which a run has a movement
--- leave the node where it arrives, so they are behind the eight entries of that node.
+-- A kept network is a graph that the search takes: a run has 1 to 52,800 feet, and 2,000 such runs fit a label.
 -- Assumes nothing.
 use mathlib.Core.Path.{_≡_, sym, ap}
-use mathlib.Core.Bool.{true, not}
+use mathlib.Core.Bool.{true}
 use mathlib.Core.List.{List}
 use Prim.Native.Nat.{ℕ, zero, suc, _+_, _-_, _*_, _≤_, _<_}
 use native.Mathlib.Numerals.{add-one}
 use native.Mathlib.Omega.{arith}
-use lib.Dec.{eqb}
-use borrow.Author.Tests.{eqb-true}
-use Rattle.routes.proofs.Facts.{and-true}
 use Rattle.format.specs.Edition.{mostFeet}
 use Rattle.format.specs.Network.{editionOf, segmentsOf, isNetwork}
-use Rattle.format.specs.Corners.{cornersOf, Indexed}
 use Rattle.format.proofs.NetworkLaws.{passed}
-use Rattle.streets.specs.Runs.{start, finish, leavingLeg, arrivalLeg, feetOf, joins, RunOf}
+use Rattle.streets.specs.Runs.{feetOf, RunOf}
 use Rattle.search.specs.Leaving.{Leaves, Entry}
-use Rattle.search.specs.Relax.{Exits}
 use Rattle.search.specs.Search.{Fair}
 use Rattle.search.specs.Town.{mostRunFeet, mostRuns, Town}
-use Rattle.search.proofs.LeavingLaws.{run-feet, leaving-entry}
+use Rattle.search.specs.Left.{Way}
+use Rattle.search.proofs.LeavingLaws.{run-feet}
 
 -- no edition has longer runs
 feet-few : (e : ℕ) → mostFeet e ≤ mostRunFeet
@@ -30,8 +25,7 @@ pub town : {net : List ℕ} {s : ℕ} → isNetwork net ≡ true → s ≡ segme
 town is e = record { network = is; count = ap (λ (k : ℕ). 2 * k) e }
 
 -- what stands behind an entry that is not 0
-pub record Behind (net : List ℕ) (n node leg entry : ℕ) : Type 0 where
-  pub leaves : Leaves net node leg (entry - 1)
+pub record Behind (net : List ℕ) (n entry : ℕ) : Type 0 where
   pub inside : entry - 1 < n
   pub run : RunOf net (entry - 1)
   pub feet : feetOf net (entry - 1) ≤ mostRunFeet
@@ -60,17 +54,7 @@ module _ {net : List ℕ} {n : ℕ} (T : Town net n) where
       go zero h = omega arith
       go (suc r) h = omega (arith, T .count, h r (sym (add-one r)) .inside)
 
-  pub behind : {node leg entry : ℕ} → Entry net node leg entry → (entry ≡ 0 → ⊥) → Behind net n node leg entry
-  behind {node} {leg} {entry} E some =
-      let l : entry - 1 < n = omega (arith, entry-few E) in
-      record { leaves = E .leaving (entry - 1) (omega arith); inside = l; run = run-of l; feet = fair .short (entry - 1) l }
-
-  pub exits : {index : List ℕ} → Indexed (cornersOf net) index → Exits (finish net) (joins net) index n
-  unfolding joins
-  exits I =
-      record {
-        every = λ p r l k e.
-            leaving-entry net (T .network) I (run-of k) (finish net p)
-            (sym (eqb-true (finish net p) (start net r)
-            (and-true (eqb (finish net p) (start net r)) (not (eqb (arrivalLeg net p) (leavingLeg net r))) e .0)));
-      }
+  pub behind : {t u entry : ℕ} → Way net t n u entry → (entry ≡ 0 → ⊥) → Behind net n entry
+  behind {entry = entry} W some =
+      let l = W .inside (entry - 1) (omega arith) in
+      record { inside = l; run = run-of l; feet = fair .short (entry - 1) l }

@@ -2,7 +2,7 @@
 -- rounds, what a round does, and where the search stops.
 -- Assumes nothing.
 use mathlib.Core.Path.{_≡_}
-use mathlib.Core.Bool.{Bool, true}
+use mathlib.Core.Bool.{Bool, true, false}
 use mathlib.Core.List.{List}
 use mathlib.Core.Logic.{_⊎_}
 use Prim.Native.Nat.{ℕ, _+_, _*_, _≤_, _<_}
@@ -35,30 +35,35 @@ pub record Settled (w : Graph) (best previous : List ℕ) (m : ℕ) : Type 0 whe
   pub edges : (p r : ℕ) → p < w .size → key best p < m → r < w .size → w .edge p r ≡ true
       → (at best r < unlabelled) × (at best r ≤ at best p + w .feet r)
 
+-- From a spent run every edge leads to a labelled run, so that settling it would change nothing; and no goal is spent.
+pub record Spent (w : Graph) (goal spent : ℕ → Bool) (best : List ℕ) : Type 0 where
+  pub closed : (p r : ℕ) → p < w .size → spent p ≡ true → r < w .size → w .edge p r ≡ true → at best r < unlabelled
+  pub aside : (r : ℕ) → r < w .size → spent r ≡ true → goal r ≡ false
+
 -- The run with the key m is the next to be settled, and its label has room for one run more.
-pub record Due (n most m : ℕ) (best previous tree : List ℕ) : Type 0 where
+pub record Due (n most m : ℕ) (spent : ℕ → Bool) (best previous tree : List ℕ) : Type 0 where
   pub below : m < top
   pub whose : IsKey best n m
   pub room : labelIn m + most < unlabelled
   pub long : n ≤ length best
   pub long′ : n ≤ length previous
-  pub queued : Queued best tree n m
+  pub queued : Queued spent best tree n m
 
 -- The run u, whose label is base, is taken from the queue, and the edges from it are being relaxed.
-pub record Settling (n most u base : ℕ) (best previous tree : List ℕ) : Type 0 where
+pub record Settling (n most u base : ℕ) (spent : ℕ → Bool) (best previous tree : List ℕ) : Type 0 where
   pub inside : u < n
   pub room : base + most < unlabelled
   pub long : n ≤ length best
   pub long′ : n ≤ length previous
-  pub queued : Queued best tree n (labelKey base u + 1)
+  pub queued : Queued spent best tree n (labelKey base u + 1)
 
 -- A round has settled the run with the key m: the edges from it are relaxed, and m′ is the next key.
-pub record Round (edge : ℕ → ℕ → Bool) (feet : ℕ → ℕ) (n m : ℕ) (best previous best′ previous′ tree′ : List ℕ) (m′ : ℕ) : Type 0 where
+pub record Round (edge : ℕ → ℕ → Bool) (feet : ℕ → ℕ) (n m : ℕ) (spent : ℕ → Bool) (best previous best′ previous′ tree′ : List ℕ) (m′ : ℕ) : Type 0 where
   pub relaxed : Relaxed edge feet n (runIn m) (labelIn m) best previous best′ previous′
-  pub next : Least best′ n (m + 1) m′
+  pub next : Least spent best′ n (m + 1) m′
   pub long : n ≤ length best′
   pub long′ : n ≤ length previous′
-  pub queued : Queued best′ tree′ n m′
+  pub queued : Queued spent best′ tree′ n m′
 
 -- The run arrives at b.
 unfoldable pub arrivesAt : Streets → ℕ → ℕ → Bool

@@ -7,7 +7,7 @@ ghost use Rattle.queue.specs.Queue.{Queue};
 ghost use Rattle.streets.specs.Runs.{feetOf};
 ghost use Rattle.streets.specs.Bicycle.{bicycle};
 ghost use Rattle.search.specs.Begin.{Seed, Begun};
-ghost use Rattle.search.specs.Queued.{Queued};
+ghost use Rattle.search.specs.Queued.{noneSpent, Queued};
 ghost use Rattle.search.specs.Town.{Town, townGraph, usable};
 use crate::labels::NONE;
 use crate::labels::clear_labels;
@@ -52,7 +52,7 @@ pub fn begin(
 )
     requires { ⌜ Town (now net) n × Indexed (cornersOf (now net)) (now index) × (from < nodesOf (now net)) × (n ≤ length (now best)) × (n ≤ length (now previous)) × (2 ≤ length (now tree)) × (n + n ≤ length (now tree)) ⌝ }
     ensures { λ _. ⌜ Begun (townGraph (now (net .entry)) n tolerance from) (now (best .exit)) (now (previous .exit)) ⌝ }
-    ensures { λ _. ⌜ Queued (now (best .exit)) (now (tree .exit)) n 0 ⌝ }
+    ensures { λ _. ⌜ Queued noneSpent (now (best .exit)) (now (tree .exit)) n 0 ⌝ }
 {
     clear_labels(n, best, previous);
     clear(n, tree);

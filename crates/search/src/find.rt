@@ -8,6 +8,7 @@ ghost use Rattle.format.specs.Corners.{cornersOf, Indexed};
 ghost use Rattle.streets.specs.Runs.{runsOf};
 ghost use Rattle.streets.specs.Bicycle.{bicycle};
 ghost use Rattle.search.specs.Answered.{Answered};
+use crate::relax::all_left;
 use crate::search::search_to;
 use crate::trace::count_runs;
 use crate::trace::fill;
@@ -58,7 +59,19 @@ pub fn find(
     let n = 2 * segments_of(net);
     let mut tree = room_for_keys();
     let t = tolerance as u8;
-    let key = search_to(net, index, n, t, from, to, best, previous, &mut tree);
+    let mut left = all_left();
+    let key = search_to(
+        net,
+        index,
+        n,
+        t,
+        from,
+        to,
+        best,
+        previous,
+        &mut tree,
+        &mut left,
+    );
     if TOP <= key {
         return Finding::Nothing;
     }

@@ -8,6 +8,7 @@ ghost use Rattle.streets.specs.Runs.{RunOf};
 ghost use Rattle.streets.specs.Bicycle.{bicycle};
 ghost use Rattle.search.specs.Search.{arrivesAt, Stop};
 ghost use Rattle.search.specs.Town.{Town, townGraph};
+ghost use Rattle.search.specs.Left.{Unknown};
 use crate::begin::begin;
 use crate::settle::settle;
 use queue::TOP;
@@ -32,8 +33,9 @@ pub fn search_to(
     best: &mut [u32],
     previous: &mut [u32],
     tree: &mut [u64],
+    left: &mut [u8; 1000],
 ) -> u64
-    requires { ⌜ Town (now net) n × Indexed (cornersOf (now net)) (now index) × (from < nodesOf (now net)) × (n ≤ length (now best)) × (n ≤ length (now previous)) × (2 ≤ length (now tree)) × (n + n ≤ length (now tree)) ⌝ }
+    requires { ⌜ Town (now net) n × Indexed (cornersOf (now net)) (now index) × (from < nodesOf (now net)) × (to < nodesOf (now net)) × (n ≤ length (now best)) × (n ≤ length (now previous)) × (2 ≤ length (now tree)) × (n + n ≤ length (now tree)) × Unknown (now left) ⌝ }
     ensures { λ r. ⌜ Stop (townGraph (now (net .entry)) n tolerance from) (arrivesAt (bicycle (now (net .entry))) to) (now (best .exit)) (now (previous .exit)) r ⌝ }
 {
     begin(net, index, n, tolerance, from, best, previous, tree);
@@ -43,7 +45,7 @@ pub fn search_to(
         if arrives_at(net, to, run) {
             return key;
         }
-        key = settle(net, index, n, tolerance, key, best, previous, tree);
+        key = settle(net, index, n, tolerance, key, best, previous, tree, left);
     }
     key
 }

@@ -101,3 +101,12 @@ exit-past-unused used (suc left) at l e =
 pub exit-after-last : (used : ℕ → Bool) (left at : ℕ) → left ≡ 0 → exitFrom used left at ≡ at
 unfolding exitFrom
 exit-after-last used left at e = rw e
+
+-- an exit is a leg
+pub exit-below : (used : ℕ → Bool) (left at : ℕ) → at < 8 → exitFrom used left at < 8
+unfolding exitFrom
+exit-below used zero at l = l
+exit-below used (suc left) at l =
+    bool-cases (used (nextBelow at))
+    (λ (e : used (nextBelow at) ≡ true). rw e (omega arith))
+    (λ (e : used (nextBelow at) ≡ false). rw e (exit-below used left (nextBelow at) (omega arith)))

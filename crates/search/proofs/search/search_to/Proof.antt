@@ -1,33 +1,41 @@
--- Between the rounds the record `Search` holds at the next key. A round settles one run more, so the loop ends; it stops where the next run arrives at
--- `to`, or where no labelled run is left.
+-- Between the rounds the record `Search` holds at the next key, the numbers of what is left are right, and nothing is noted of `to`. A round settles one run
+-- more, so the loop ends; it stops where the next run arrives at `to`, or where no labelled run is left.
 -- Assumes nothing.
 use mathlib.Core.Path.{_≡_, refl, sym, _∙_}
+use Prim.Native.Nat.{_<_}
 use lib.ListN.{length}
+use Rattle.queue.specs.Queue.{at}
 use Rattle.streets.specs.Bicycle.{bicycle}
 use Rattle.search.specs.Search.{arrivesAt}
 use Rattle.search.specs.Town.{townGraph}
+use Rattle.search.specs.Left.{Left, spentOf}
 use Rattle.search.proofs.Invariant.{unsettled}
+use Rattle.search.proofs.Queueing.{queued-none-spent}
 use Rattle.search.proofs.Rounds.{Search, search-begins, search-due, search-stops, search-ends, search-more, search-less}
+use Rattle.search.proofs.LeavingLaws.{node-small}
 use Rattle.search.proofs.TownLaws.{run-of, fair}
+use Rattle.search.proofs.LeftLaws.{left-unknown, left-spent, noted-elsewhere}
 use native.Mathlib.Omega.{arith}
 use borrow.Author.Needs.{needs}
 use Rattle.search.proofs.search.search_to.Statement.{statement}
 use Rattle.search.proofs.search.search_to.Tie as tie
 
 abbrev Inv-loop : tie.InvT-loop
-Inv-loop net index n tolerance from to best₀ previous₀ tree₀ key₀ best previous tree key =
+Inv-loop net index n tolerance from to best₀ previous₀ tree₀ left₀ key₀ best previous tree left key =
     (length best ≡ length best₀)
     × (length previous ≡ length previous₀)
     × (length tree ≡ length tree₀)
-    × Search (townGraph net n tolerance from) (arrivesAt (bicycle net) to) best previous tree key
+    × Search (townGraph net n tolerance from) (arrivesAt (bicycle net) to) (spentOf net left) best previous tree key
+    × Left net tolerance n best left
+    × (at left to ≡ 0)
 
 abbrev μ-loop : tie.MeasureT-loop
-μ-loop net index n tolerance from to best₀ previous₀ tree₀ key₀ best previous tree key = unsettled best n key
+μ-loop net index n tolerance from to best₀ previous₀ tree₀ left₀ key₀ best previous tree left key = unsettled best n key
 
 begin-requires : tie.Need-begin-requires Inv-loop μ-loop
 begin-requires c κs =
     let s = c .before .before .before .before .before .before .before in
-    (s .pre .0, s .pre .1, s .pre .2, s .pre .3, s .pre .4, s .pre .5, s .pre .6)
+    (s .pre .0, s .pre .1, s .pre .2, s .pre .4, s .pre .5, s .pre .6, s .pre .7)
 
 least-requires : tie.Need-least-requires Inv-loop μ-loop
 least-requires c κs = c .before .before .before .before .before .before .before .begin .ensures .1 .queue
@@ -35,16 +43,25 @@ least-requires c κs = c .before .before .before .before .before .before .before
 loop-holds : tie.Need-loop-holds Inv-loop μ-loop
 loop-holds c =
     let s = c .before .before .before .before .before .before .before .before .before .before .before .before .before .before .before .before in
-    let b = c .before .before .before .before .before .before .before .before .begin in (
+    let b = c .before .before .before .before .before .before .before .before .begin in
+    let L = left-unknown (s .pre .0) (s .pre .8) in
+    let z = s .pre .8 .none (s .args .to) (node-small (s .args .net .now) (s .pre .0 .network) (s .pre .3)) in (
       refl,
       refl,
       refl,
-      search-begins _ (fair (s .pre .0)) (b .ensures .0) (omega (arith, s .pre .3, b .kept .1 .1 .1 .1 .1 .0))
-          (omega (arith, s .pre .4, b .kept .1 .1 .1 .1 .1 .1 .0)) (b .ensures .1) (c .least .ensures),
+      search-begins (fair (s .pre .0)) (left-spent (s .pre .0) (s .args .from) (s .args .to) L z) (b .ensures .0)
+          (omega (arith, s .pre .4, b .kept .1 .1 .1 .1 .1 .0)) (omega (arith, s .pre .5, b .kept .1 .1 .1 .1 .1 .1 .0))
+          (queued-none-spent (b .ensures .1)) (c .least .ensures),
+      L,
+      z,
     )
 
 arrives-at-requires : tie.Need-arrives-at-requires Inv-loop μ-loop
-arrives-at-requires c κs = run-of (c .before .before .before .before .before .before .before .before .before .before .before .before .before .before .before .before .before .before .pre .0) (c .before .loop .inv .3 .whose (c .loop-test .taken) .inside)
+arrives-at-requires c κs =
+    let start =
+    c .before .before .before .before .before .before .before .before .before .before .before .before .before .before .before .before .before
+    .before in
+    run-of (start .pre .0) (c .before .loop .inv .3 .whose (c .loop-test .taken) .inside)
 
 same-length : tie.Need-same-length Inv-loop μ-loop
 same-length c = search needs
@@ -56,26 +73,49 @@ same-length-3 : tie.Need-same-length-3 Inv-loop μ-loop
 same-length-3 c = search needs
 
 returns : tie.Need-returns Inv-loop μ-loop
-returns c = search-stops (fair (c .before .before .before .before .before .before .before .before .before .before .before .before .before .before .before .before .before .before .before .before .pre .0)) (c .before .before .before .loop .inv .3) (c .before .before .loop-test .taken) (sym (c .before .arrives-at .ensures) ∙ c .if1 .taken)
+returns c =
+    let after-loop = c .before .before .before in
+    let start =
+    after-loop .before .before .before .before .before .before .before .before .before .before .before .before .before .before .before .before
+    .before in
+    search-stops (fair (start .pre .0)) (after-loop .loop .inv .3) (c .before .before .loop-test .taken)
+    (sym (c .before .arrives-at .ensures) ∙ c .if1 .taken)
 
 settle-requires : tie.Need-settle-requires Inv-loop μ-loop
 settle-requires c κs =
-    let s = c .before .before .before .before .before .before .before .before .before .before .before .before .before .before .before .before .before .before .before .before .before .before .before in
-    (s .pre .0, s .pre .1, search-due (fair (s .pre .0)) (c .before .before .before .before .before .before .loop .inv .3) (c .before .before .before .before .before .loop-test .taken))
+    let after-loop-test = c .before .before .before .before .before .before in
+    let after-loop = after-loop-test .before in
+    let after-before =
+    after-loop .before .before .before .before .before .before .before .before .before .before .before .before .before .before .before .before in
+    let s = after-before .before in
+    (s .pre .0, s .pre .1, search-due (fair (s .pre .0)) (after-loop .loop .inv .3) (after-loop-test .loop-test .taken), after-loop .loop .inv .4)
 
 loop-less : tie.Need-loop-less Inv-loop μ-loop
-loop-less c = search-less (fair (c .before .before .before .before .before .before .before .before .before .before .before .before .before .before .before .before .before .before .before .before .before .before .before .before .before .before .before .before .before .before .pre .0)) (c .before .before .before .before .before .before .before .before .before .before .before .before .before .loop .inv .3) (c .before .before .before .before .before .before .before .before .before .before .before .before .loop-test .taken) (c .before .before .before .before .before .before .settle .ensures)
+loop-less c =
+    let after-settle = c .before .before .before .before .before .before in
+    let after-loop-test = after-settle .before .before .before .before .before .before .before in
+    let after-loop = after-loop-test .before in
+    let start =
+    after-loop .before .before .before .before .before .before .before .before .before .before .before .before .before .before .before .before
+    .before in
+    search-less (fair (start .pre .0)) (after-loop .loop .inv .3) (after-loop-test .loop-test .taken) (after-settle .settle .ensures .0)
 
 loop-again : tie.Need-loop-again Inv-loop μ-loop
 loop-again c =
-    let i = c .before .before .before .before .before .before .before .before .before .before .before .before .before .loop .inv in
-    let o = c .before .before .before .before .before .before .settle in (
-      o .kept .1 .1 .1 .1 .1 .0 ∙ i .0,
-      o .kept .1 .1 .1 .1 .1 .1 .0 ∙ i .1,
-      o .kept .1 .1 .1 .1 .1 .1 .1 .0 ∙ i .2,
-      search-more (fair (c .before .before .before .before .before .before .before .before .before .before .before .before .before .before .before .before .before .before .before .before .before .before .before .before .before .before .before .before .before .before .pre .0)) (i .3) (c .before .before .before .before .before .before .before .before .before .before .before .before .loop-test .taken) (o .ensures)
-          (sym (c .before .before .before .before .before .before .before .before .before .before .before .arrives-at .ensures) ∙ c .before .before .before .before .before .before .before .before .before .before .if1 .left),
-    )
+    let after-settle = c .before .before .before .before .before .before in
+    let after-if1 = after-settle .before .before .before .before .before in
+    let after-arrives-at = after-if1 .before in
+    let after-loop-test = after-arrives-at .before in
+    let after-loop = after-loop-test .before in
+    let after-before =
+    after-loop .before .before .before .before .before .before .before .before .before .before .before .before .before .before .before .before in
+    let s = after-before .before in
+    let i = after-loop .loop .inv in
+    let o = after-settle .settle in
+    let N = o .ensures .1 in
+    let away = sym (after-arrives-at .arrives-at .ensures) ∙ after-if1 .if1 .left in
+    let z = noted-elsewhere N (s .args .to) away (i .5) in
+    (o .kept .1 .1 .1 .1 .1 .0 ∙ i .0, o .kept .1 .1 .1 .1 .1 .1 .0 ∙ i .1, o .kept .1 .1 .1 .1 .1 .1 .1 .0 ∙ i .2, search-more (fair (s .pre .0)) (i .3) (after-loop-test .loop-test .taken) (o .ensures .0) (left-spent (s .pre .0) (s .args .from) (s .args .to) (N .right) z) away, N .right, z)
 
 same-length-4 : tie.Need-same-length-4 Inv-loop μ-loop
 same-length-4 c = search needs
@@ -87,7 +127,11 @@ same-length-6 : tie.Need-same-length-6 Inv-loop μ-loop
 same-length-6 c = search needs
 
 returns-2 : tie.Need-returns-2 Inv-loop μ-loop
-returns-2 c = search-ends (fair (c .before .before .before .before .before .before .before .before .before .before .before .before .before .before .before .before .before .before .pre .0)) (c .before .loop .inv .3) (c .loop-test .left)
+returns-2 c =
+    let start =
+    c .before .before .before .before .before .before .before .before .before .before .before .before .before .before .before .before .before
+    .before in
+    search-ends (fair (start .pre .0)) (c .before .loop .inv .3) (c .loop-test .left)
 
 pub search-to-spec : {M : Type 1} → statement M
 search-to-spec =

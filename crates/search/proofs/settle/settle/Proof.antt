@@ -3,6 +3,7 @@
 -- Assumes nothing.
 use Rattle.search.proofs.Queueing.{settling-begins, settling-ends}
 use Rattle.search.proofs.TownLaws.{run-of, fair}
+use native.Mathlib.Omega.{arith}
 use borrow.Author.Needs.{needs}
 use Rattle.search.proofs.settle.settle.Statement.{statement}
 use Rattle.search.proofs.settle.settle.Tie as tie
@@ -13,13 +14,24 @@ cast-label c = search needs
 put-requires : tie.Need-put-requires
 put-requires c κs = search needs
 
-arrival-of-requires : tie.Need-arrival-of-requires
-arrival-of-requires c κs = (run-of (c .before .before .before .before .before .before .before .before .pre .0) (c .before .before .before .before .before .before .before .before .pre .2 .whose .inside), c .before .before .before .before .before .before .before .before .pre .1)
+finish-of-requires : tie.Need-finish-of-requires
+finish-of-requires c κs =
+    let start = c .before .before .before .before .before .before .before .before in
+    run-of (start .pre .0) (start .pre .2 .whose .inside)
+
+arrival-leg-requires : tie.Need-arrival-leg-requires
+arrival-leg-requires c κs =
+    let start = c .before .before .before .before .before .before .before .before .before in
+    run-of (start .pre .0) (start .pre .2 .whose .inside)
 
 relax-requires : tie.Need-relax-requires
 relax-requires c κs =
-    let s = c .before .before .before .before .before .before .before .before .before .before .before .before in
-    (s .pre .0, s .pre .1, c .before .before .before .arrival-of .ensures, settling-begins (fair (s .pre .0) .small) (s .pre .2) (c .before .before .before .before .before .before .put .ensures))
+    let after-arrival-leg = c .before .before .before .before in
+    let after-finish-of = after-arrival-leg .before in
+    let after-put = after-finish-of .before .before .before in
+    let after-before = after-put .before .before .before .before .before in
+    let s = after-before .before in
+    (s .pre .0, s .pre .1, record { at-node = after-finish-of .finish-of .ensures; by-leg = after-arrival-leg .arrival-leg .ensures }, s .pre .3, settling-begins (fair (s .pre .0) .small) (s .pre .2) (after-put .put .ensures))
 
 least-requires : tie.Need-least-requires
 least-requires c κs = search needs
@@ -35,9 +47,11 @@ same-length-3 c = search needs
 
 returns : tie.Need-returns
 returns c =
-    let s = c .before .before .before .before .before .before .before .before .before .before .before .before .before .before .before .before .before .before .before .before .before in
-    let r = c .before .before .before .before .before .before .before .before .relax .ensures in
-    settling-ends (fair (s .pre .0) .small) (s .pre .2) (r .0) (r .1) (c .least .ensures)
+    let after-relax = c .before .before .before .before .before .before .before .before in
+    let after-before = after-relax .before .before .before .before .before .before .before .before .before .before .before .before .before .before in
+    let s = after-before .before in
+    let r = after-relax .relax .ensures in
+    (settling-ends (fair (s .pre .0) .small) (s .pre .2) (r .relaxed) (r .settling) (c .least .ensures), r .noted)
 
 pub settle-spec : {M : Type 1} → statement M
 settle-spec =
@@ -45,7 +59,8 @@ settle-spec =
     (tie.spec
     cast-label
     put-requires
-    arrival-of-requires
+    finish-of-requires
+    arrival-leg-requires
     relax-requires
     least-requires
     same-length

@@ -1,0 +1,217 @@
+-- What is left to find at a node. Labels are never taken away, so what is said of a node stays true. A run from which every movement is within the
+-- tolerance leads on by an edge to every usable run of the node, but for the one by the leg of its own arrival: after it only that leg may be left, and
+-- after it where one other leg was left, nothing. Where nothing is left every edge from an arriving run leads to a labelled run: the run is spent. At the
+-- goal's node nothing is ever noted, since a run that arrives there is not settled: no goal is spent.
+-- Assumes nothing.
+use mathlib.Core.Path.{_≡_, refl, sym, _∙_, ap}
+use mathlib.Core.Bool.{true, false}
+use mathlib.Core.List.{List}
+use mathlib.Core.Logic.{⊎-elim}
+use Prim.Native.Nat.{ℕ, _+_, _*_, _-_, _%_, _≤_, _<_}
+use native.Mathlib.Omega.{arith}
+use lib.ListN.{set, length-set}
+use lib.Seq.{getD-set-same, getD-set-other}
+use borrow.Author.Tests.{ne-eqb, eqb-false, le-leb, leb-true}
+use Rattle.routes.specs.Labels.{unlabelled, edgeOf}
+use Rattle.routes.proofs.Facts.{lt-or-ge, eq-or-ne}
+use Rattle.format.specs.Corners.{cornersOf, Indexed}
+use Rattle.queue.specs.Queue.{at}
+use Rattle.streets.specs.Runs.{start, finish, leavingLeg, arrivalLeg, feetOf}
+use Rattle.streets.specs.Exits.{exitFrom, rightHandExit, usedIn}
+use Rattle.streets.specs.Bicycle.{bicycle}
+use Rattle.streets.proofs.ExitLaws.{exit-below}
+use Rattle.streets.proofs.MovementLaws.{exit-is}
+use Rattle.search.specs.Leaving.{Entry}
+use Rattle.search.specs.Relax.{Relaxed}
+use Rattle.search.specs.Search.{arrivesAt, Spent}
+use Rattle.search.specs.Town.{mostRunFeet, Town, townGraph, usable}
+use Rattle.search.specs.Left.{nothing, Unknown, Left, spentOf, Noted, Arrives, EveryExit, RightOnly, Way}
+use Rattle.search.proofs.LeavingLaws.{node-small, start-below, leaving-below, entry-leaves, leaving-at}
+use Rattle.search.proofs.TownLaws.{run-of, fair}
+use Rattle.search.proofs.TestLaws.{edge-onward, right-by, every-edge, way-every, way-right}
+
+-- a run that arrives where nothing is left
+pub spent-at : (net left : List ℕ) (r : ℕ) {node : ℕ} → node ≡ finish net r → nothing ≤ at left node → spentOf net left r ≡ true
+unfolding spentOf
+spent-at net left r e h = le-leb nothing (at left (finish net r)) (omega (arith, ap (at left) e))
+
+-- where the run that is settled arrives elsewhere, what is noted of a node stays
+pub noted-elsewhere : {net : List ℕ} {t n u : ℕ} {best left left′ : List ℕ} → Noted net t n u best left left′ → (to : ℕ) → arrivesAt (bicycle net) to u ≡ false
+    → at left to ≡ 0 → at left′ to ≡ 0
+unfolding arrivesAt
+noted-elsewhere {net} {u = u} N to away z = N .elsewhere to (λ (e : to ≡ finish net u). eqb-false (finish net u) to away (sym e)) ∙ z
+
+module _ {net : List ℕ} {n : ℕ} (T : Town net n) where
+  pub left-unknown : {t : ℕ} {best left : List ℕ} → Unknown left → Left net t n best left
+  left-unknown U =
+      record {
+        long = U .long;
+        labelled = λ r l s some other. absurd (some (U .none (start net r) (node-small net (T .network) (start-below (run-of T l)))));
+      }
+
+  spent-closed : {t : ℕ} {best left : List ℕ} → Left net t n best left → (p r : ℕ) → nothing ≤ at left (finish net p) → r < n
+      → edgeOf (bicycle net) t p r ≡ true → at best r < unlabelled
+  spent-closed {t} {best} {left} L p r s l e =
+      let O = edge-onward net t p r e in
+      let h : nothing ≤ at left (start net r) = rw (O .from) s in
+      L .labelled r l (O .rideable) (λ (k : at left (start net r) ≡ 0). omega arith)
+      (λ (k : at left (start net r) ≡ leavingLeg net r + 1). omega (arith, leaving-below (run-of T l)))
+
+  -- what the theory of the search asks of spent runs
+  pub left-spent : {t : ℕ} {best left : List ℕ} (from to : ℕ) → Left net t n best left → at left to ≡ 0
+      → Spent (townGraph net n t from) (arrivesAt (bicycle net) to) (spentOf net left) best
+  unfolding spentOf arrivesAt
+  left-spent {t} {best} {left} from to L z =
+      record {
+        closed = λ p r l s l′ e. spent-closed L p r (leb-true nothing (at left (finish net p)) s) l′ e;
+        aside = λ r l s.
+            ne-eqb (finish net r) to
+            (λ (k : finish net r ≡ to). omega (arith, leb-true nothing (at left (finish net r)) s, ap (at left) k, z));
+      }
+
+  -- where nothing is left, every edge leads to a labelled run
+  pub nothing-left : {t u node leg : ℕ} {best left : List ℕ} → Arrives net u node leg → Left net t n best left → nothing ≤ at left node
+      → (r : ℕ) → r < n → unlabelled ≤ at best r → edgeOf (bicycle net) t u r ≡ true → ⊥
+  nothing-left {t} {u} {left = left} A L h r l none e =
+      omega (arith, spent-closed L u r (omega (arith, ap (at left) (A .at-node .is))) l e)
+
+  -- ---- a round at the run u
+  module _ {t u base node leg : ℕ} {best previous best′ previous′ left : List ℕ} (A : Arrives net u node leg) (L : Left net t n best left)
+      (R : Relaxed (edgeOf (bicycle net) t) (feetOf net) n u base best previous best′ previous′) (room : base + mostRunFeet < unlabelled) where
+    -- a labelled run stays labelled, and one to which an edge leads is labelled
+    stays : (r : ℕ) → r < n → at best r < unlabelled → at best′ r < unlabelled
+    stays r l h = omega (arith, R .kept r l h .0)
+
+    reached : (r : ℕ) → r < n → edgeOf (bicycle net) t u r ≡ true → at best′ r < unlabelled
+    reached r l e =
+        ⊎-elim
+        (λ (h : at best r < unlabelled). stays r l h)
+        (λ (h : unlabelled ≤ at best r). omega (arith, R .labelled r l h e .0, fair T .short r l))
+        (lt-or-ge (at best r) unlabelled)
+
+    -- nothing new is said
+    pub noted-same : Noted net t n u best′ left left
+    noted-same =
+        record {
+          right = record { long = L .long; labelled = λ r l s some other. stays r l (L .labelled r l s some other) };
+          elsewhere = λ v e. refl;
+        }
+
+    -- something is said of the node
+    noted-set : (x : ℕ)
+        → ((r : ℕ) → r < n → usable (bicycle net) t r ≡ true → start net r ≡ node → (leavingLeg net r + 1 ≡ x → ⊥) → at best′ r < unlabelled)
+        → Noted net t n u best′ left (set left node x)
+    noted-set x H =
+        record {
+          right =
+              record {
+                long = simp length-set (L .long);
+                labelled = λ r l s some other.
+                    ⊎-elim
+                    (λ (e : start net r ≡ node).
+                    let here : at (set left node x) (start net r) ≡ x = rw e (getD-set-same left node x 0 (omega (arith, A .at-node .few, L .long))) in
+                    H r l s e (λ (k : leavingLeg net r + 1 ≡ x). other (here ∙ sym k)))
+                    (λ (e : start net r ≡ node → ⊥).
+                    let same = getD-set-other left node (start net r) x 0 e in
+                    stays r l
+                    (L .labelled r l s (λ (k : at left (start net r) ≡ 0). some (same ∙ k))
+                    (λ (k : at left (start net r) ≡ leavingLeg net r + 1). other (same ∙ k))))
+                    (eq-or-ne (start net r) node);
+              };
+          elsewhere = λ v e. getD-set-other left node v x 0 (λ (k : v ≡ node). e (k ∙ A .at-node .is));
+        }
+
+    module _ (every : EveryExit net t u) where
+      -- every usable run of the node by another leg has its label
+      others-labelled : (r : ℕ) → r < n → usable (bicycle net) t r ≡ true → start net r ≡ node → (leavingLeg net r ≡ leg → ⊥) → at best′ r < unlabelled
+      others-labelled r l s from apart =
+          reached r l
+          (sym (every-edge every r (from ∙ A .at-node .is) (λ (k : leavingLeg net r ≡ arrivalLeg net u). apart (omega (arith, A .by-leg .is)))) ∙ s)
+
+      pub noted-others : Noted net t n u best′ left (set left node (1 + leg))
+      noted-others = noted-set (1 + leg) (λ r l s from k. others-labelled r l s from (λ (j : leavingLeg net r ≡ leg). k (omega arith)))
+
+      pub noted-last : (at left node ≡ 0 → ⊥) → (at left node ≡ leg + 1 → ⊥) → Noted net t n u best′ left (set left node nothing)
+      noted-last some apart =
+          noted-set nothing
+          (λ r l s from k.
+          ⊎-elim
+          (λ (j : leavingLeg net r ≡ leg).
+          let here : at left (start net r) ≡ at left node = ap (at left) from in
+          stays r l
+          (L .labelled r l s (λ (z : at left (start net r) ≡ 0). some (sym here ∙ z))
+          (λ (z : at left (start net r) ≡ leavingLeg net r + 1). apart (omega arith))))
+          (λ (j : leavingLeg net r ≡ leg → ⊥). others-labelled r l s from j)
+          (eq-or-ne (leavingLeg net r) leg))
+
+  -- more is said of a node where something was left: no run is spent less
+  pub spent-grows : (left : List ℕ) (node x : ℕ) → at left node < nothing → (r : ℕ) → r < n → spentOf net left r ≡ true → spentOf net (set left node x) r ≡ true
+  unfolding spentOf
+  spent-grows left node x some r l s =
+      let h = leb-true nothing (at left (finish net r)) s in
+      ⊎-elim
+      (λ (e : finish net r ≡ node). absurd (omega (arith, h, ap (at left) e)))
+      (λ (e : finish net r ≡ node → ⊥). le-leb nothing (at (set left node x) (finish net r)) (omega (arith, h, getD-set-other left node (finish net r) x 0 e)))
+      (eq-or-ne (finish net r) node)
+
+  -- ---- at which entries the edges from u lead on
+  module _ {index : List ℕ} {u node leg : ℕ} (I : Indexed (cornersOf net) index) (A : Arrives net u node leg) where
+    onward-at : (t r : ℕ) {exit : ℕ} → r < n → edgeOf (bicycle net) t u r ≡ true → leavingLeg net r ≡ exit → at index (node * 8 + exit) ≡ r + 1
+    onward-at t r l e by = leaving-at net (T .network) I (run-of T l) (edge-onward net t u r e .from ∙ sym (A .at-node .is)) by
+
+    -- the right-hand exit, as the code steps down to it
+    pub right-exit : (x : ℕ) → x ≡ exitFrom (usedIn index node) 8 leg → (x < 8) × (x ≡ rightHandExit net (finish net u) (arrivalLeg net u))
+    right-exit x e =
+        (omega (arith, exit-below (usedIn index node) 8 leg (A .by-leg .below)), exit-is (T .network) I (A .at-node) (A .by-leg) x e)
+
+    pub right-at : {t exit : ℕ} → RightOnly net t u → exit ≡ rightHandExit net (finish net u) (arrivalLeg net u) → (r : ℕ) → r < n
+        → edgeOf (bicycle net) t u r ≡ true → at index (node * 8 + exit) ≡ r + 1
+    right-at {t} O is r l e = onward-at t r l e (right-by O r e ∙ sym is)
+
+    pub others-at : (t r : ℕ) → r < n → edgeOf (bicycle net) t u r ≡ true → (k : ℕ) × (k < 7) × (at index (node * 8 + (leg + 1 + k) % 8) ≡ r + 1)
+    others-at t r l e =
+        let apart : leavingLeg net r ≡ leg → ⊥ = λ (s : leavingLeg net r ≡ leg). edge-onward net t u r e .apart (omega (arith, A .by-leg .is)) in
+        let b = leaving-below (run-of T l) in (
+          (leavingLeg net r + 7 - leg) % 8,
+          omega (arith, A .by-leg .below),
+          onward-at t r l e (omega (arith, A .by-leg .below)),
+        )
+
+    -- onto which entries movements within the tolerance lead
+    entry-at : {exit : ℕ} → exit < 8 → Entry net node exit (at index (node * 8 + exit))
+    entry-at l = entry-leaves net (T .network) I (A .at-node .below) l
+
+    pub right-way : {t exit : ℕ} → RightOnly net t u → exit ≡ exitFrom (usedIn index node) 8 leg → (exit ≡ leg → ⊥) → Way net t n u (at index (node * 8 + exit))
+    right-way {exit = exit} O e apart =
+        let x = right-exit exit e in
+        way-right T A (entry-at (x .0)) apart O (x .1)
+
+    pub other-way : {t exit : ℕ} → EveryExit net t u → exit < 8 → (exit ≡ leg → ⊥) → Way net t n u (at index (node * 8 + exit))
+    other-way every l apart = way-every T A (entry-at l) apart every
+
+    pub others-way : {t k : ℕ} → EveryExit net t u → k < 7 → Way net t n u (at index (node * 8 + (leg + 1 + k) % 8))
+    others-way {k = k} every l = other-way every (omega arith) (λ (s : (leg + 1 + k) % 8 ≡ leg). omega (arith, A .by-leg .below))
+
+    -- where one leg is left, an edge to a run without a label leads by that leg
+    module _ {t : ℕ} {best left : List ℕ} (exit : ℕ) (L : Left net t n best left) (one : at left node ≡ exit + 1) where
+      pub last-by : (r : ℕ) → r < n → unlabelled ≤ at best r → edgeOf (bicycle net) t u r ≡ true → leavingLeg net r ≡ exit
+      last-by r l none e =
+          let O = edge-onward net t u r e in
+          let here : at left (start net r) ≡ exit + 1 = ap (at left) (O .from ∙ sym (A .at-node .is)) ∙ one in
+          ⊎-elim
+          (λ (j : leavingLeg net r ≡ exit). j)
+          (λ (j : leavingLeg net r ≡ exit → ⊥).
+          absurd
+          (omega (
+            arith,
+            L .labelled r l (O .rideable) (λ (z : at left (start net r) ≡ 0). omega arith)
+                (λ (z : at left (start net r) ≡ leavingLeg net r + 1). j (omega arith)),
+          )))
+          (eq-or-ne (leavingLeg net r) exit)
+
+      pub last-at : (r : ℕ) → r < n → unlabelled ≤ at best r → edgeOf (bicycle net) t u r ≡ true → at index (node * 8 + exit) ≡ r + 1
+      last-at r l none e = onward-at t r l e (last-by r l none e)
+
+      -- and where that is the leg of arrival, none leads on
+      pub last-own : exit ≡ leg → (r : ℕ) → r < n → unlabelled ≤ at best r → edgeOf (bicycle net) t u r ≡ true → ⊥
+      last-own is r l none e = edge-onward net t u r e .apart (last-by r l none e ∙ is ∙ A .by-leg .is)
