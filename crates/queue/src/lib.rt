@@ -1,26 +1,13 @@
 // A winner tree (tournament tree) of 64-bit keys, at most one key for each of n entries, in a slice that the caller lends. The leaf of an entry is
 // element n + entry: its key, or TOP while it has none. Node i, from the root 1 to n - 1, is the lesser of its children 2i and 2i + 1, so that the
-// root is the least key. Inserting, changing and removing a key are one store and one climb. Element 0 is not used.
+// root is the least key. Inserting, changing and removing a key are one store and one climb. Element 0 is not used. An array of nothing but TOP is an
+// empty queue.
 ghost use mathlib.Core.Path.{_≡_};
-ghost use Prim.Native.Nat.{_+_, _≤_, _<_, min};
-ghost use lib.ListN.{length};
-ghost use Rattle.queue.specs.Queue.{top, Queue, Empty, Put, Front};
+ghost use Prim.Native.Nat.{_≤_, _<_, min};
+ghost use Rattle.queue.specs.Queue.{top, Queue, Put, Front};
 
 // No key: every key is less.
 pub const TOP: u64 = 281474976645120;
-
-// Empties the part of the tree that n entries need.
-pub fn clear(n: usize, tree: &mut [u64])
-    requires { ⌜ (2 ≤ length (now tree)) × (n + n ≤ length (now tree)) ⌝ }
-    ensures { λ _. ⌜ Empty (now (tree .exit)) n ⌝ }
-{
-    let mut i = 1;
-    tree[i] = TOP;
-    while i + 1 < n + n {
-        i += 1;
-        tree[i] = TOP;
-    }
-}
 
 fn lesser(a: u64, b: u64) -> u64
     ensures { λ r. ⌜ r ≡ min a b ⌝ }

@@ -22,25 +22,25 @@ use Rattle.search.specs.Queued.{noneSpent, Queued}
 use Rattle.search.specs.Search.{Fair, Settled}
 
 -- ---- no labels
-pub cleared-none : (best previous : List ℕ) → Cleared best previous 0
-cleared-none best previous = record { none = λ r l. absurd (not-suc-le-zero l); alone = λ r l. absurd (not-suc-le-zero l) }
+pub cleared-none : (best : List ℕ) → Cleared best 0
+cleared-none best = record { none = λ r l. absurd (not-suc-le-zero l) }
 
-cleared-one : (xs : List ℕ) (i : ℕ) → i < length xs → ((r : ℕ) → r < i → at xs r ≡ unlabelled) → (r : ℕ) → r < i + 1 → at (set xs i unlabelled) r ≡ unlabelled
-cleared-one xs i l h r k =
-    ⊎-elim
-    (λ (e : r ≡ i). rw e (getD-set-same xs i unlabelled 0 l))
-    (λ (e : r < i). getD-set-other xs i r unlabelled 0 (omega arith) ∙ h r e)
-    (last-or-below (rw add-one at k))
-
-pub cleared-more : {best previous : List ℕ} {i : ℕ} → Cleared best previous i → i < length best → i < length previous
-    → Cleared (set best i unlabelled) (set previous i unlabelled) (i + 1)
-cleared-more {best} {previous} {i} C l l′ = record { none = cleared-one best i l (C .none); alone = cleared-one previous i l′ (C .alone) }
+pub cleared-more : {best : List ℕ} {i : ℕ} → Cleared best i → i < length best → Cleared (set best i unlabelled) (i + 1)
+cleared-more {best} {i} C l =
+    record {
+      none = λ r k.
+          ⊎-elim
+          (λ (e : r ≡ i). rw e (getD-set-same best i unlabelled 0 l))
+          (λ (e : r < i). getD-set-other best i r unlabelled 0 (omega arith) ∙ C .none r e)
+          (last-or-below (rw add-one at k));
+    }
 
 -- ---- the sources
--- r is a source, with its first label and its place in the queue
-pub record Sown (w : Graph) (best tree : List ℕ) (r : ℕ) : Type 0 where
+-- r is a source, with its first label, no run before it, and its place in the queue
+pub record Sown (w : Graph) (best previous tree : List ℕ) (r : ℕ) : Type 0 where
   pub source : w .source r ≡ true
   pub label : at best r ≡ w .feet r
+  pub alone : at previous r ≡ unlabelled
   pub queued : keyOf tree (w .size) r ≡ labelKey (w .feet r) r
 
 -- r has no label, and is not queued
@@ -50,16 +50,14 @@ Blank best tree n r = (at best r ≡ unlabelled) × (keyOf tree n r ≡ top)
 -- the first i entries from the place on were taken
 pub record Started (w : Graph) (exits : List ℕ) (place i : ℕ) (best previous tree : List ℕ) : Type 0 where
   pub queue : Queue tree (w .size)
-  pub alone : (r : ℕ) → r < w .size → at previous r ≡ unlabelled
-  pub each : (r : ℕ) → r < w .size → Blank best tree (w .size) r ⊎ Sown w best tree r
-  pub passed : (leg : ℕ) → leg < i → (r : ℕ) → r < w .size → at exits (place + leg) ≡ r + 1 → w .source r ≡ true → Sown w best tree r
+  pub each : (r : ℕ) → r < w .size → Blank best tree (w .size) r ⊎ Sown w best previous tree r
+  pub passed : (leg : ℕ) → leg < i → (r : ℕ) → r < w .size → at exits (place + leg) ≡ r + 1 → w .source r ≡ true → Sown w best previous tree r
 
-pub started-none : {w : Graph} {best previous tree : List ℕ} → Cleared best previous (w .size) → Empty tree (w .size) → (exits : List ℕ) (place : ℕ)
+pub started-none : {w : Graph} {best tree : List ℕ} → Cleared best (w .size) → Empty tree (w .size) → (previous exits : List ℕ) (place : ℕ)
     → Started w exits place 0 best previous tree
-started-none C E exits place =
+started-none C E previous exits place =
     record {
       queue = E .queue;
-      alone = C .alone;
       each = λ r l. inl (C .none r l, E .all r l);
       passed = λ leg l. absurd (not-suc-le-zero l);
     }
@@ -70,7 +68,6 @@ module _ {w : Graph} {exits : List ℕ} {place i : ℕ} {best previous tree : Li
   skips none =
       record {
         queue = S .queue;
-        alone = S .alone;
         each = S .each;
         passed = λ leg l r k x s.
             ⊎-elim
@@ -82,10 +79,16 @@ module _ {w : Graph} {exits : List ℕ} {place i : ℕ} {best previous tree : Li
   -- the entry gives r its label
   module _ {tree′ : List ℕ} (r : ℕ) (whose : at exits (place + i) ≡ r + 1) (source : w .source r ≡ true) (inside : r < length best) (inside′ : r < length previous)
       (W : LabelWritten (w .size) r (w .feet r) unlabelled best previous tree (set best r (w .feet r)) (set previous r unlabelled) tree′) where
-    own : Sown w (set best r (w .feet r)) tree′ r
-    own = record { source = source; label = getD-set-same best r (w .feet r) 0 inside; queued = W .queued .here }
+    own : Sown w (set best r (w .feet r)) (set previous r unlabelled) tree′ r
+    own =
+        record {
+          source = source;
+          label = getD-set-same best r (w .feet r) 0 inside;
+          alone = getD-set-same previous r unlabelled 0 inside′;
+          queued = W .queued .here;
+        }
 
-    stays : (q : ℕ) → q < w .size → Sown w best tree q → Sown w (set best r (w .feet r)) tree′ q
+    stays : (q : ℕ) → q < w .size → Sown w best previous tree q → Sown w (set best r (w .feet r)) (set previous r unlabelled) tree′ q
     stays q l s =
         ⊎-elim
         (λ (e : q ≡ r). rw e own)
@@ -93,6 +96,7 @@ module _ {w : Graph} {exits : List ℕ} {place i : ℕ} {best previous tree : Li
         record {
           source = s .source;
           label = getD-set-other best r q (w .feet r) 0 e ∙ s .label;
+          alone = getD-set-other previous r q unlabelled 0 e ∙ s .alone;
           queued = W .queued .others q l e ∙ s .queued;
         })
         (eq-or-ne q r)
@@ -101,11 +105,6 @@ module _ {w : Graph} {exits : List ℕ} {place i : ℕ} {best previous tree : Li
     sows =
         record {
           queue = W .queued .queue;
-          alone = λ q l.
-              ⊎-elim
-              (λ (e : q ≡ r). rw e (getD-set-same previous r unlabelled 0 inside′))
-              (λ (e : q ≡ r → ⊥). getD-set-other previous r q unlabelled 0 e ∙ S .alone q l)
-              (eq-or-ne q r);
           each = λ q l.
               ⊎-elim
               (λ (s : Blank best tree (w .size) q).
@@ -113,7 +112,7 @@ module _ {w : Graph} {exits : List ℕ} {place i : ℕ} {best previous tree : Li
               (λ (e : q ≡ r). inr (rw e own))
               (λ (e : q ≡ r → ⊥). inl (getD-set-other best r q (w .feet r) 0 e ∙ s .0, W .queued .others q l e ∙ s .1))
               (eq-or-ne q r))
-              (λ (s : Sown w best tree q). inr (stays q l s))
+              (λ (s : Sown w best previous tree q). inr (stays q l s))
               (S .each q l);
           passed = λ leg l q k x s.
               ⊎-elim
@@ -152,25 +151,27 @@ module _ {w : Graph} {exits : List ℕ} {place : ℕ} {best previous tree : List
             simp e
             (⊎-elim
             (λ (s : Blank best tree (w .size) r). s .0)
-            (λ (s : Sown w best tree r). absurd (true≢false (sym (s .source) ∙ e)))
+            (λ (s : Sown w best previous tree r). absurd (true≢false (sym (s .source) ∙ e)))
             (S .each r l)));
-        alone = S .alone;
+        alone = λ r l e.
+            let x = every r l e in
+            S .passed (x .0) (x .1) r l (x .2) e .alone;
       }
 
 pub started-queued : {w : Graph} {exits : List ℕ} {place i : ℕ} {best previous tree : List ℕ} → Started w exits place i best previous tree
     → Queued noneSpent best tree (w .size) 0
-started-queued {w} {best = best} {tree = tree} S =
+started-queued {w} {best = best} {previous = previous} {tree = tree} S =
     record {
       queue = S .queue;
       every = λ r l h d.
           ⊎-elim
           (λ (s : Blank best tree (w .size) r). absurd (omega (arith, s .0)))
-          (λ (s : Sown w best tree r). inl (omega (arith, s .label, s .queued)))
+          (λ (s : Sown w best previous tree r). inl (omega (arith, s .label, s .queued)))
           (S .each r l);
       only = λ r l d.
           ⊎-elim
           (λ (s : Blank best tree (w .size) r). absurd (omega (arith, s .1)))
-          (λ (s : Sown w best tree r). omega (arith, s .label, s .queued))
+          (λ (s : Sown w best previous tree r). omega (arith, s .label, s .queued))
           (S .each r l);
     }
 
@@ -191,8 +192,11 @@ module _ {w : Graph} {best previous : List ℕ} {most : ℕ} (F : Fair (w .size)
         sources = λ r l e. omega (arith, source-label r l e, F .short r l, F .room);
         whence = λ r l h.
             bool-cases (w .source r)
-            (λ (e : w .source r ≡ true). inl (record { source = e; exact = source-label r l e; alone = B .alone r l }))
+            (λ (e : w .source r ≡ true). inl (record { source = e; exact = source-label r l e; alone = B .alone r l e }))
             (λ (e : w .source r ≡ false). absurd (omega (arith, other-label r l e)));
-        earlier = λ r l h k. absurd (omega (arith, k, B .alone r l, F .small));
+        earlier = λ r l h k.
+            bool-cases (w .source r)
+            (λ (e : w .source r ≡ true). absurd (omega (arith, k, B .alone r l e, F .small)))
+            (λ (e : w .source r ≡ false). absurd (omega (arith, other-label r l e)));
         edges = λ p r l h. absurd (not-suc-le-zero h);
       }

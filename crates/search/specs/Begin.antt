@@ -20,7 +20,7 @@ pub data Seed (source : ℕ → Bool) (feet : ℕ → ℕ) (n entry : ℕ) (best
 unfoldable pub firstLabel : Graph → ℕ → ℕ
 firstLabel w r = cond (w .source r) (w .feet r) unlabelled
 
--- Every run has its first label, and no run before it.
+-- Every run has its first label, and a source no run before it.
 pub record Begun (w : Graph) (best previous : List ℕ) : Type 0 where
   pub first : (r : ℕ) → r < w .size → at best r ≡ firstLabel w r
-  pub alone : (r : ℕ) → r < w .size → at previous r ≡ unlabelled
+  pub alone : (r : ℕ) → r < w .size → w .source r ≡ true → at previous r ≡ unlabelled

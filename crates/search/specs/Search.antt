@@ -10,10 +10,11 @@ use lib.Dec.{eqb}
 use lib.ListN.{length}
 use Rattle.routes.specs.Streets.{Streets}
 use Rattle.routes.specs.Labels.{Graph, unlabelled, First, Next, Labels}
-use Rattle.queue.specs.Queue.{top, at}
+use Rattle.queue.specs.Queue.{top, at, Empty}
 use Rattle.search.specs.Keys.{span, labelKey, labelIn, runIn, key, IsKey}
 use Rattle.search.specs.Relax.{Relaxed}
 use Rattle.search.specs.Queued.{Queued, Least}
+use Rattle.search.specs.Town.{mostRuns}
 
 -- What the search asks of a graph: its runs fit a key, each has a length, and a route of one run more than there are would still fit a label.
 pub record Fair (n : ℕ) (feet : ℕ → ℕ) (most : ℕ) : Type 0 where
@@ -39,6 +40,10 @@ pub record Settled (w : Graph) (best previous : List ℕ) (m : ℕ) : Type 0 whe
 pub record Spent (w : Graph) (goal spent : ℕ → Bool) (best : List ℕ) : Type 0 where
   pub closed : (p r : ℕ) → p < w .size → spent p ≡ true → r < w .size → w .edge p r ≡ true → at best r < unlabelled
   pub aside : (r : ℕ) → r < w .size → spent r ≡ true → goal r ≡ false
+
+-- An empty queue for the runs of any network.
+abbrev pub NoKeys : List ℕ → Type 0
+NoKeys tree = (n : ℕ) → n ≤ mostRuns → Empty tree n
 
 -- The run with the key m is the next to be settled, and its label has room for one run more.
 pub record Due (n most m : ℕ) (spent : ℕ → Bool) (best previous tree : List ℕ) : Type 0 where

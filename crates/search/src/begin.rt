@@ -1,9 +1,9 @@
 // The beginning of a search: the runs that leave the start are labelled with their own feet and queued.
-ghost use Prim.Native.Nat.{_+_, _≤_, _<_};
+ghost use Prim.Native.Nat.{_≤_, _<_};
 ghost use lib.ListN.{length};
 ghost use Rattle.format.specs.Network.{nodesOf};
 ghost use Rattle.format.specs.Corners.{cornersOf, Indexed};
-ghost use Rattle.queue.specs.Queue.{Queue};
+ghost use Rattle.queue.specs.Queue.{Queue, Empty};
 ghost use Rattle.streets.specs.Runs.{feetOf};
 ghost use Rattle.streets.specs.Bicycle.{bicycle};
 ghost use Rattle.search.specs.Begin.{Seed, Begun};
@@ -13,7 +13,6 @@ use crate::labels::NONE;
 use crate::labels::clear_labels;
 use crate::labels::write_label;
 use crate::usable::is_usable;
-use queue::clear;
 use streets::runs::feet_of;
 
 // Labels the run behind an entry of the corner index, where there is one and it is usable.
@@ -50,12 +49,11 @@ pub fn begin(
     previous: &mut [u32],
     tree: &mut [u64],
 )
-    requires { ⌜ Town (now net) n × Indexed (cornersOf (now net)) (now index) × (from < nodesOf (now net)) × (n ≤ length (now best)) × (n ≤ length (now previous)) × (2 ≤ length (now tree)) × (n + n ≤ length (now tree)) ⌝ }
+    requires { ⌜ Town (now net) n × Indexed (cornersOf (now net)) (now index) × (from < nodesOf (now net)) × (n ≤ length (now best)) × (n ≤ length (now previous)) × Empty (now tree) n ⌝ }
     ensures { λ _. ⌜ Begun (townGraph (now (net .entry)) n tolerance from) (now (best .exit)) (now (previous .exit)) ⌝ }
     ensures { λ _. ⌜ Queued noneSpent (now (best .exit)) (now (tree .exit)) n 0 ⌝ }
 {
-    clear_labels(n, best, previous);
-    clear(n, tree);
+    clear_labels(n, best);
     let mut leg = 0;
     while leg < 8 {
         begin_at(

@@ -8,8 +8,7 @@ ghost use Rattle.format.specs.Corners.{cornersOf, Indexed};
 ghost use Rattle.streets.specs.Runs.{runsOf};
 ghost use Rattle.streets.specs.Bicycle.{bicycle};
 ghost use Rattle.search.specs.Answered.{Answered};
-use crate::relax::all_left;
-use crate::search::search_to;
+use crate::search::nearest;
 use crate::trace::count_runs;
 use crate::trace::fill;
 use crate::trace::route_level;
@@ -25,13 +24,6 @@ pub enum Finding {
         length: u32,
         level: u8,
     },
-}
-
-// A tree with room for the keys of 2,000 runs.
-fn room_for_keys() -> [u64; 4000]
-    ensures { λ r. ⌜ length r ≡ 4000 ⌝ }
-{
-    [0u64; 4000]
 }
 
 // Writes a shortest route within the tolerance into the buffer from the place on, where there is one.
@@ -57,21 +49,8 @@ pub fn find(
         };
     }
     let n = 2 * segments_of(net);
-    let mut tree = room_for_keys();
     let t = tolerance as u8;
-    let mut left = all_left();
-    let key = search_to(
-        net,
-        index,
-        n,
-        t,
-        from,
-        to,
-        best,
-        previous,
-        &mut tree,
-        &mut left,
-    );
+    let key = nearest(net, index, n, t, from, to, best, previous);
     if TOP <= key {
         return Finding::Nothing;
     }

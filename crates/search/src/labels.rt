@@ -19,15 +19,14 @@ fn key_of(label: u32, run: usize) -> u64
     (label as u64) * 65536 + (run as u64)
 }
 
-// Takes the labels of n runs away.
-pub fn clear_labels(n: usize, best: &mut [u32], previous: &mut [u32])
-    requires { ⌜ (n ≤ length (now best)) × (n ≤ length (now previous)) ⌝ }
-    ensures { λ _. ⌜ Cleared (now (best .exit)) (now (previous .exit)) n ⌝ }
+// Takes the labels of n runs away. The run before is only asked of a run that has a label.
+pub fn clear_labels(n: usize, best: &mut [u32])
+    requires { ⌜ n ≤ length (now best) ⌝ }
+    ensures { λ _. ⌜ Cleared (now (best .exit)) n ⌝ }
 {
     let mut r = 0;
     while r < n {
         best[r] = NONE;
-        previous[r] = NONE;
         r += 1;
     }
 }

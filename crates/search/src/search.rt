@@ -1,15 +1,17 @@
 // The rounds of a search.
 ghost use mathlib.Core.Path.{_≡_};
-ghost use Prim.Native.Nat.{_+_, _≤_, _<_};
+ghost use Prim.Native.Nat.{_≤_, _<_};
 ghost use lib.ListN.{length};
 ghost use Rattle.format.specs.Network.{nodesOf};
 ghost use Rattle.format.specs.Corners.{cornersOf, Indexed};
+ghost use Rattle.queue.specs.Queue.{Empty};
 ghost use Rattle.streets.specs.Runs.{RunOf};
 ghost use Rattle.streets.specs.Bicycle.{bicycle};
-ghost use Rattle.search.specs.Search.{arrivesAt, Stop};
+ghost use Rattle.search.specs.Search.{arrivesAt, NoKeys, Stop};
 ghost use Rattle.search.specs.Town.{Town, townGraph};
 ghost use Rattle.search.specs.Left.{Unknown};
 use crate::begin::begin;
+use crate::relax::all_left;
 use crate::settle::settle;
 use queue::TOP;
 use queue::least;
@@ -23,7 +25,7 @@ fn arrives_at(net: &[u8], node: usize, run: usize) -> bool
 }
 
 // Settles runs in the order of their keys until the next one arrives at `to`, and gives its key; TOP where no labelled run is left.
-pub fn search_to(
+fn search_to(
     net: &[u8],
     index: &[u16; 8000],
     n: usize,
@@ -35,7 +37,7 @@ pub fn search_to(
     tree: &mut [u64],
     left: &mut [u8; 1000],
 ) -> u64
-    requires { ⌜ Town (now net) n × Indexed (cornersOf (now net)) (now index) × (from < nodesOf (now net)) × (to < nodesOf (now net)) × (n ≤ length (now best)) × (n ≤ length (now previous)) × (2 ≤ length (now tree)) × (n + n ≤ length (now tree)) × Unknown (now left) ⌝ }
+    requires { ⌜ Town (now net) n × Indexed (cornersOf (now net)) (now index) × (from < nodesOf (now net)) × (to < nodesOf (now net)) × (n ≤ length (now best)) × (n ≤ length (now previous)) × Empty (now tree) n × Unknown (now left) ⌝ }
     ensures { λ r. ⌜ Stop (townGraph (now (net .entry)) n tolerance from) (arrivesAt (bicycle (now (net .entry))) to) (now (best .exit)) (now (previous .exit)) r ⌝ }
 {
     begin(net, index, n, tolerance, from, best, previous, tree);
@@ -48,4 +50,41 @@ pub fn search_to(
         key = settle(net, index, n, tolerance, key, best, previous, tree, left);
     }
     key
+}
+
+// A queue without keys, with room for 2,000 runs.
+fn no_keys() -> [u64; 4000]
+    ensures { λ r. ⌜ NoKeys r ⌝ }
+{
+    [TOP; 4000]
+}
+
+// The whole search: the key of the nearest run that arrives at `to`; TOP where none does.
+pub fn nearest(
+    net: &[u8],
+    index: &[u16; 8000],
+    n: usize,
+    tolerance: u8,
+    from: usize,
+    to: usize,
+    best: &mut [u32],
+    previous: &mut [u32],
+) -> u64
+    requires { ⌜ Town (now net) n × Indexed (cornersOf (now net)) (now index) × (from < nodesOf (now net)) × (to < nodesOf (now net)) × (n ≤ length (now best)) × (n ≤ length (now previous)) ⌝ }
+    ensures { λ r. ⌜ Stop (townGraph (now (net .entry)) n tolerance from) (arrivesAt (bicycle (now (net .entry))) to) (now (best .exit)) (now (previous .exit)) r ⌝ }
+{
+    let mut tree = no_keys();
+    let mut left = all_left();
+    search_to(
+        net,
+        index,
+        n,
+        tolerance,
+        from,
+        to,
+        best,
+        previous,
+        &mut tree,
+        &mut left,
+    )
 }

@@ -1,5 +1,5 @@
--- Labels and queue are cleared, and then the eight entries of the start are taken in turn, with the record `Started` kept. The run behind an entry
--- leaves the start, so of it "usable" is "a source"; and a source leaves the start, so it is behind one of the eight entries.
+-- Labels are cleared, and then the eight entries of the start are taken in turn, with the record `Started` kept. The run behind an entry leaves the
+-- start, so of it "usable" is "a source"; and a source leaves the start, so it is behind one of the eight entries.
 -- Assumes nothing.
 use mathlib.Core.Path.{_≡_, refl, _∙_}
 use Prim.Native.Nat.{_*_, _-_, _≤_}
@@ -28,34 +28,31 @@ abbrev μ-loop : tie.MeasureT-loop
 μ-loop net index n tolerance from best₀ previous₀ tree₀ leg₀ best previous tree leg = 8 - leg
 
 clear-labels-requires : tie.Need-clear-labels-requires Inv-loop μ-loop
-clear-labels-requires c κs = (c .before .before .before .before .before .before .pre .3, c .before .before .before .before .before .before .pre .4)
-
-clear-requires : tie.Need-clear-requires Inv-loop μ-loop
-clear-requires c κs = search needs
+clear-labels-requires c κs = c .before .before .before .before .before .pre .3
 
 loop-holds : tie.Need-loop-holds Inv-loop μ-loop
-loop-holds c = (omega arith, started-none (c .before .before .before .before .before .before .before .before .clear-labels .ensures) (c .before .before .clear .ensures) _ _, refl, refl, refl)
+loop-holds c = (omega arith, started-none (c .before .before .clear-labels .ensures) (c .before .before .before .before .before .before .before .before .pre .5) _ _ _, refl, refl, refl)
 
 mul-begin-at : tie.Need-mul-begin-at Inv-loop μ-loop
-mul-begin-at c = omega (arith, node-small (c .before .before .before .before .before .before .before .before .before .before .before .before .before .before .before .before .before .args .net .now) (c .before .before .before .before .before .before .before .before .before .before .before .before .before .before .before .before .before .pre .0 .network) (c .before .before .before .before .before .before .before .before .before .before .before .before .before .before .before .before .before .pre .2))
+mul-begin-at c = omega (arith, node-small (c .before .before .before .before .before .before .before .before .before .before .args .net .now) (c .before .before .before .before .before .before .before .before .before .before .pre .0 .network) (c .before .before .before .before .before .before .before .before .before .before .pre .2))
 
 add-begin-at : tie.Need-add-begin-at Inv-loop μ-loop
-add-begin-at c = omega (arith, node-small (c .before .before .before .before .before .before .before .before .before .before .before .before .before .before .before .before .before .args .net .now) (c .before .before .before .before .before .before .before .before .before .before .before .before .before .before .before .before .before .pre .0 .network) (c .before .before .before .before .before .before .before .before .before .before .before .before .before .before .before .before .before .pre .2))
+add-begin-at c = omega (arith, node-small (c .before .before .before .before .before .before .before .before .before .before .args .net .now) (c .before .before .before .before .before .before .before .before .before .before .pre .0 .network) (c .before .before .before .before .before .before .before .before .before .before .pre .2))
 
 mul-begin-at-2 : tie.Need-mul-begin-at-2 Inv-loop μ-loop
-mul-begin-at-2 c = omega (arith, node-small (c .before .before .before .before .before .before .before .before .before .before .before .before .before .before .before .before .before .args .net .now) (c .before .before .before .before .before .before .before .before .before .before .before .before .before .before .before .before .before .pre .0 .network) (c .before .before .before .before .before .before .before .before .before .before .before .before .before .before .before .before .before .pre .2))
+mul-begin-at-2 c = omega (arith, node-small (c .before .before .before .before .before .before .before .before .before .before .args .net .now) (c .before .before .before .before .before .before .before .before .before .before .pre .0 .network) (c .before .before .before .before .before .before .before .before .before .before .pre .2))
 
 element-copy-out-begin-at : tie.Need-element-copy-out-begin-at Inv-loop μ-loop
-element-copy-out-begin-at c = omega (arith, node-small (c .before .before .before .before .before .before .before .before .before .before .before .before .before .before .before .before .before .args .net .now) (c .before .before .before .before .before .before .before .before .before .before .before .before .before .before .before .before .before .pre .0 .network) (c .before .before .before .before .before .before .before .before .before .before .before .before .before .before .before .before .before .pre .2))
+element-copy-out-begin-at c = omega (arith, node-small (c .before .before .before .before .before .before .before .before .before .before .args .net .now) (c .before .before .before .before .before .before .before .before .before .before .pre .0 .network) (c .before .before .before .before .before .before .before .before .before .before .pre .2))
 
 begin-at-requires : tie.Need-begin-at-requires Inv-loop μ-loop
 begin-at-requires c κs =
-    let s = c .before .before .before .before .before .before .before .before .before .before .before .before .before .before .before .before .before .before .before .before .before in
+    let s = c .before .before .before .before .before .before .before .before .before .before .before .before .before .before in
     let i = c .before .before .before .before .before .loop .inv in (
       s .pre .0,
       entry-few (s .pre .0) (entry-leaves (s .args .net .now) (s .pre .0 .network) (s .pre .1) (s .pre .2) (c .before .before .before .before .loop-test .taken)),
-      omega (arith, s .pre .3, i .2, c .before .before .before .before .before .before .before .before .before .before .before .before .before .before .clear-labels .kept .1 .0),
-      omega (arith, s .pre .4, i .3, c .before .before .before .before .before .before .before .before .before .before .before .before .before .before .clear-labels .kept .1 .1 .0),
+      omega (arith, s .pre .3, i .2, c .before .before .before .before .before .before .before .before .clear-labels .kept .1 .0),
+      omega (arith, s .pre .4, i .3),
       i .1 .queue,
     )
 
@@ -67,7 +64,7 @@ loop-less c = search needs
 
 loop-again : tie.Need-loop-again Inv-loop μ-loop
 loop-again c =
-    let s = c .before .before .before .before .before .before .before .before .before .before .before .before .before .before .before .before .before .before .before .before .before .before .before .before .before .before .before .before in
+    let s = c .before .before .before .before .before .before .before .before .before .before .before .before .before .before .before .before .before .before .before .before .before in
     let i = c .before .before .before .before .before .before .before .before .before .before .before .before .loop .inv in
     let o = c .before .before .before .before .before .before .begin-at in
     let E = entry-leaves (s .args .net .now) (s .pre .0 .network) (s .pre .1) (s .pre .2) (c .before .before .before .before .before .before .before .before .before .before .before .loop-test .taken) in (
@@ -76,8 +73,8 @@ loop-again c =
           (λ r x.
           let L = E .leaving r x in
           (omega (arith, s .pre .0 .count, L .inside), source-usable L (s .args .tolerance)))
-          (omega (arith, s .pre .3, i .2, c .before .before .before .before .before .before .before .before .before .before .before .before .before .before .before .before .before .before .before .before .before .clear-labels .kept .1 .0))
-          (omega (arith, s .pre .4, i .3, c .before .before .before .before .before .before .before .before .before .before .before .before .before .before .before .before .before .before .before .before .before .clear-labels .kept .1 .1 .0))
+          (omega (arith, s .pre .3, i .2, c .before .before .before .before .before .before .before .before .before .before .before .before .before .before .before .clear-labels .kept .1 .0))
+          (omega (arith, s .pre .4, i .3))
           (o .ensures),
       o .kept .1 .1 .1 .1 .0 ∙ i .2,
       o .kept .1 .1 .1 .1 .1 .0 ∙ i .3,
@@ -95,7 +92,7 @@ same-length-3 c = search needs
 
 returns : tie.Need-returns Inv-loop μ-loop
 returns c =
-    let s = c .before .before .before .before .before .before .before .before .before .before .before .before .before .before .before .before .before in
+    let s = c .before .before .before .before .before .before .before .before .before .before in
     let e : c .before .loop .leg ≡ 8 = omega arith in
     let S = rw e at (c .before .loop .inv .1) in (
       started-begun S
@@ -112,7 +109,6 @@ begin-spec =
     Inv-loop
     μ-loop
     clear-labels-requires
-    clear-requires
     loop-holds
     mul-begin-at
     add-begin-at

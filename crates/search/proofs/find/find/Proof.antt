@@ -22,33 +22,14 @@ segments-of-requires c κs = search needs
 mul-n : tie.Need-mul-n
 mul-n c = search needs
 
-room-for-keys-requires : tie.Need-room-for-keys-requires
-room-for-keys-requires c κs = search needs
-
 cast-t : tie.Need-cast-t
 cast-t c = search needs
 
-all-left-requires : tie.Need-all-left-requires
-all-left-requires c κs = search needs
-
-slice-aggregate-search-to : tie.Need-slice-aggregate-search-to
-slice-aggregate-search-to c = search needs
-
-search-to-requires : tie.Need-search-to-requires
-search-to-requires c κs =
-    let s = c .before .before .before .before .before .before .before .before .before .before .before .before in
-    let e = c .before .before .before .before .before .before .segments-of .ensures in
-    let T = town (s .pre .0) e in (
-      T,
-      s .pre .1,
-      s .pre .2,
-      s .pre .3,
-      omega (arith, e, s .pre .6),
-      omega (arith, e, s .pre .7),
-      omega (arith, c .before .before .before .before .before .room-for-keys .ensures),
-      omega (arith, c .before .before .before .before .before .room-for-keys .ensures, few-runs T),
-      c .before .before .before .before .all-left .ensures,
-    )
+nearest-requires : tie.Need-nearest-requires
+nearest-requires c κs =
+    let s = c .before .before .before .before .before .before .before .before in
+    let e = c .before .before .segments-of .ensures in
+    (town (s .pre .0) e, s .pre .1, s .pre .2, s .pre .3, omega (arith, e, s .pre .6), omega (arith, e, s .pre .7))
 
 same-length : tie.Need-same-length
 same-length c = search needs
@@ -58,39 +39,28 @@ same-length-2 c = search needs
 
 returns-2 : tie.Need-returns-2
 returns-2 c =
-    let after-search-to = c .before .before .before .before .before .before in
-    let after-segments-of = after-search-to .before .before .before .before .before .before .before in
-    let after-if1 = after-segments-of .before in
-    let after-before = after-if1 .before .before .before .before in
-    let s = after-before .before in
-    let e = after-segments-of .segments-of .ensures in
-    (refl, stop-none (bicycle (s .args .net .now)) (s .args .tolerance) _ _ (fair (town (s .pre .0) refl)) (rw e at (after-search-to .search-to .ensures)) (after-if1 .if1 .left) (c .if2 .taken))
+    let s = c .before .before .before .before .before .before .before .before .before .before .before .before .before .before in
+    let e = c .before .before .before .before .before .before .before .before .segments-of .ensures in
+    (refl, stop-none (bicycle (s .args .net .now)) (s .args .tolerance) _ _ (fair (town (s .pre .0) refl)) (rw e at (c .before .before .before .before .before .nearest .ensures)) (c .before .before .before .before .before .before .before .before .before .if1 .left) (c .if2 .taken))
 
 count-runs-requires : tie.Need-count-runs-requires
 count-runs-requires c κs =
-    let after-search-to = c .before .before .before .before .before .before .before in
-    let after-segments-of = after-search-to .before .before .before .before .before .before .before in
-    let after-before = after-segments-of .before .before .before .before .before in
-    let s = after-before .before in
-    let e = after-segments-of .segments-of .ensures in
-    let o = after-search-to .search-to in
-    (few-runs (town (s .pre .0) e), omega (arith, e, s .pre .7, o .kept .1 .1 .1 .1 .1 .1 .1 .0), rw e (stop-ends (bicycle (s .args .net .now)) (s .args .tolerance) _ _ (fair (town (s .pre .0) refl)) (rw e at (o .ensures)) (c .before .if2 .left)))
+    let s = c .before .before .before .before .before .before .before .before .before .before .before .before .before .before .before in
+    let e = c .before .before .before .before .before .before .before .before .before .segments-of .ensures in
+    let o = c .before .before .before .before .before .before .nearest in (
+      few-runs (town (s .pre .0) e),
+      omega (arith, e, s .pre .7, o .kept .1 .1 .1 .1 .1 .1 .1 .0),
+      rw e (stop-ends (bicycle (s .args .net .now)) (s .args .tolerance) _ _ (fair (town (s .pre .0) refl)) (rw e at (o .ensures)) (c .before .if2 .left)),
+    )
 
 route-level-requires : tie.Need-route-level-requires
 route-level-requires c κs =
-    let after-search-to = c .before .before .before .before .before .before .before .before .before in
-    let after-segments-of = after-search-to .before .before .before .before .before .before .before in
-    let after-before = after-segments-of .before .before .before .before .before in
-    let s = after-before .before in
-    let e = after-segments-of .segments-of .ensures in
-    (town (s .pre .0) e, s .pre .1, omega (arith, e, s .pre .7, after-search-to .search-to .kept .1 .1 .1 .1 .1 .1 .1 .0), c .before .count-runs .ensures)
+    let s = c .before .before .before .before .before .before .before .before .before .before .before .before .before .before .before .before .before in
+    let e = c .before .before .before .before .before .before .before .before .before .before .before .segments-of .ensures in
+    (town (s .pre .0) e, s .pre .1, omega (arith, e, s .pre .7, c .before .before .before .before .before .before .before .before .nearest .kept .1 .1 .1 .1 .1 .1 .1 .0), c .before .count-runs .ensures)
 
 mul-fill : tie.Need-mul-fill
-mul-fill c =
-    let start =
-    c .before .before .before .before .before .before .before .before .before .before .before .before .before .before .before .before .before
-    .before .before .before .before .before .before .before in
-    omega (arith, start .good .1 .1 .1 .1 .1 .1 .1 .0 .1, start .pre .8)
+mul-fill c = search needs
 
 sub-fill : tie.Need-sub-fill
 sub-fill c = search needs
@@ -103,17 +73,17 @@ part-fill-end c = search needs
 
 fill-requires : tie.Need-fill-requires
 fill-requires c κs =
-    let after-count-runs = c .before .before .before .before in
-    let after-search-to = after-count-runs .before .before .before .before .before .before .before .before in
-    let after-segments-of = after-search-to .before .before .before .before .before .before .before in
-    let after-before = after-segments-of .before .before .before .before .before in
-    let s = after-before .before in
-    let e = after-segments-of .segments-of .ensures in
-    let K = after-count-runs .count-runs .ensures in
-    (few-runs (town (s .pre .0) e), omega (arith, e, s .pre .7, after-search-to .search-to .kept .1 .1 .1 .1 .1 .1 .1 .0), simp (length-take, length-drop) (omega (arith, e, s .pre .8, K .few)), K)
+    let s = c .before .before .before .before .before .before .before .before .before .before .before .before .before .before .before .before .before .before .before .before in
+    let e = c .before .before .before .before .before .before .before .before .before .before .before .before .before .before .segments-of .ensures in
+    let K = c .before .before .before .before .count-runs .ensures in (
+      few-runs (town (s .pre .0) e),
+      omega (arith, e, s .pre .7, c .before .before .before .before .before .before .before .before .before .before .before .nearest .kept .1 .1 .1 .1 .1 .1 .1 .0),
+      simp (length-take, length-drop) (omega (arith, e, s .pre .8, K .few)),
+      K,
+    )
 
-cast-t41 : tie.Need-cast-t41
-cast-t41 c = search needs
+cast-t34 : tie.Need-cast-t34
+cast-t34 c = search needs
 
 same-length-3 : tie.Need-same-length-3
 same-length-3 c = search needs
@@ -126,19 +96,11 @@ same-length-5 c = search needs
 
 returns-3 : tie.Need-returns-3
 returns-3 c =
-    let after-route-level = c .before .before .before .before .before in
-    let after-count-runs = after-route-level .before .before in
-    let after-if2 = after-count-runs .before .before in
-    let after-search-to = after-if2 .before .before .before .before .before .before in
-    let after-segments-of = after-search-to .before .before .before .before .before .before .before in
-    let after-if1 = after-segments-of .before in
-    let after-before = after-if1 .before .before .before .before in
-    let s = after-before .before in
-    let e = after-segments-of .segments-of .ensures in
-    let K = after-count-runs .count-runs .ensures in
-    stop-written (bicycle (s .args .net .now)) (s .args .tolerance) _ _ (fair (town (s .pre .0) refl)) (rw e at (after-search-to .search-to .ensures))
-    (after-if1 .if1 .left) (after-if2 .if2 .left) (rw e at K)
-    (tail-placed K (s .args .place) (s .args .buffer .now) (c .before .before .fill .ensures)) (after-route-level .route-level .ensures)
+    let s = c .before .before .before .before .before .before .before .before .before .before .before .before .before .before .before .before .before .before .before .before .before .before .before in
+    let e = c .before .before .before .before .before .before .before .before .before .before .before .before .before .before .before .before .before .segments-of .ensures in
+    let K = c .before .before .before .before .before .before .before .count-runs .ensures in
+    stop-written (bicycle (s .args .net .now)) (s .args .tolerance) _ _ (fair (town (s .pre .0) refl)) (rw e at (c .before .before .before .before .before .before .before .before .before .before .before .before .before .before .nearest .ensures)) (c .before .before .before .before .before .before .before .before .before .before .before .before .before .before .before .before .before .before .if1 .left) (c .before .before .before .before .before .before .before .before .before .if2 .left) (rw e at K)
+    (tail-placed K (s .args .place) (s .args .buffer .now) (c .before .before .fill .ensures)) (c .before .before .before .before .before .route-level .ensures)
 
 pub find-spec : {M : Type 1} → statement M
 find-spec =
@@ -147,11 +109,8 @@ find-spec =
     returns
     segments-of-requires
     mul-n
-    room-for-keys-requires
     cast-t
-    all-left-requires
-    slice-aggregate-search-to
-    search-to-requires
+    nearest-requires
     same-length
     same-length-2
     returns-2
@@ -162,7 +121,7 @@ find-spec =
     part-fill-start
     part-fill-end
     fill-requires
-    cast-t41
+    cast-t34
     same-length-3
     same-length-4
     same-length-5

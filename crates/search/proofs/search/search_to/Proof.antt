@@ -35,7 +35,7 @@ abbrev μ-loop : tie.MeasureT-loop
 begin-requires : tie.Need-begin-requires Inv-loop μ-loop
 begin-requires c κs =
     let s = c .before .before .before .before .before .before .before in
-    (s .pre .0, s .pre .1, s .pre .2, s .pre .4, s .pre .5, s .pre .6, s .pre .7)
+    (s .pre .0, s .pre .1, s .pre .2, s .pre .4, s .pre .5, s .pre .6)
 
 least-requires : tie.Need-least-requires Inv-loop μ-loop
 least-requires c κs = c .before .before .before .before .before .before .before .begin .ensures .1 .queue
@@ -44,8 +44,8 @@ loop-holds : tie.Need-loop-holds Inv-loop μ-loop
 loop-holds c =
     let s = c .before .before .before .before .before .before .before .before .before .before .before .before .before .before .before .before in
     let b = c .before .before .before .before .before .before .before .before .begin in
-    let L = left-unknown (s .pre .0) (s .pre .8) in
-    let z = s .pre .8 .none (s .args .to) (node-small (s .args .net .now) (s .pre .0 .network) (s .pre .3)) in (
+    let L = left-unknown (s .pre .0) (s .pre .7) in
+    let z = s .pre .7 .none (s .args .to) (node-small (s .args .net .now) (s .pre .0 .network) (s .pre .3)) in (
       refl,
       refl,
       refl,

@@ -1,0 +1,14 @@
+-- An array of nothing but the number that stands for no key is an empty queue, of as many entries as there is room for.
+-- Assumes nothing.
+use native.Mathlib.Omega.{arith}
+use Rattle.queue.proofs.Emptied.{empty-queue}
+use native.Mathlib.Omega.{arith}
+use borrow.Author.Needs.{needs}
+use Rattle.search.proofs.search.no_keys.Statement.{statement}
+use Rattle.search.proofs.search.no_keys.Tie as tie
+
+returns : tie.Need-returns
+returns c = λ n l. empty-queue n 4000 (omega arith) (omega arith)
+
+pub no-keys-spec : {M : Type 1} → statement M
+no-keys-spec = tie.close (tie.spec returns)
