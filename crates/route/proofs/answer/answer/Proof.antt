@@ -35,7 +35,10 @@ array-share-prefix-net : tie.Need-array-share-prefix-net
 array-share-prefix-net c = kept-front (c .before .count .given .1) (c .before .before .before .before .read .ensures) .1
 
 slice-aggregate-ask : tie.Need-slice-aggregate-ask
-slice-aggregate-ask c = sym (length-take-le (c .before .before .count .given .0 .0) (c .before .before .before .before .before .read .last .1 .0) (kept-front (c .before .before .count .given .1) (c .before .before .before .before .before .read .ensures) .1))
+slice-aggregate-ask c =
+    let after-read = c .before .before .before .before .before in
+    sym
+    (length-take-le (c .before .before .count .given .0 .0) (after-read .read .last .1 .0) (kept-front (c .before .before .count .given .1) (after-read .read .ensures) .1))
 
 ask-requires : tie.Need-ask-requires
 ask-requires c κs = kept-front (c .before .before .before .count .given .1) (c .before .before .before .before .before .before .read .ensures) .0

@@ -66,24 +66,24 @@ slice-aggregate-put-found : tie.Need-slice-aggregate-put-found
 slice-aggregate-put-found c = search needs
 
 array-share-prefix-buffer : tie.Need-array-share-prefix-buffer
-array-share-prefix-buffer c = route-front (c .before .before .count .given .1) (c .before .before .before .before .before .before .before .route .ensures) .0
+array-share-prefix-buffer c =
+    let after-route = c .before .before .before .before .before .before .before in
+    route-front (c .before .before .count .given .1) (after-route .route .ensures) .0
 
 slice-aggregate-put-found-2 : tie.Need-slice-aggregate-put-found-2
-slice-aggregate-put-found-2 c = sym (length-take-le (c .before .before .before .count .given .0 .0) (c .before .before .before .before .before .before .before .before .route .last .1 .1 .1 .1 .1 .1 .0) (route-front (c .before .before .before .count .given .1) (c .before .before .before .before .before .before .before .before .route .ensures) .0))
+slice-aggregate-put-found-2 c =
+    let after-count = c .before .before .before in
+    let after-route = after-count .before .before .before .before .before in
+    sym
+    (length-take-le (after-count .count .given .0 .0) (after-route .route .last .1 .1 .1 .1 .1 .1 .0) (route-front (after-count .count .given .1) (after-route .route .ensures) .0))
 
 put-found-requires : tie.Need-put-found-requires
-put-found-requires c κs = (
-  c .before .before .before .before .before .before .before .before .before .before .before .before .before .before .before .before .before .pre,
-  search needs,
-  omega (
-    arith,
-    route-front (c .before .before .before .before .count .given .1) (c .before .before .before .before .before .before .before .before .before .route .ensures) .0,
-    length-take-le (c .before .before .before .before .count .given .0 .0) (c .before .before .before .before .before .before .before .before .before .route .last .1 .1 .1 .1 .1 .1 .0) (route-front (c .before .before .before .before .count .given .1) (c .before .before .before .before .before .before .before .before .before .route .ensures) .0),
-    c .before .before .before .before .before .before .before .before .before .route .kept .1 .1 .1 .1 .1 .1 .0,
-    c .before .before .before .before .before .before .before .before .before .before .before .before .before .route-buffer .ensures,
-  ),
-  route-front (c .before .before .before .before .count .given .1) (c .before .before .before .before .before .before .before .before .before .route .ensures) .1,
-)
+put-found-requires c κs =
+    let after-count = c .before .before .before .before in
+    let after-route = after-count .before .before .before .before .before in
+    let after-route-buffer = after-route .before .before .before .before in
+    let start = after-route-buffer .before .before .before .before in
+    (start .pre, search needs, omega (arith, route-front (after-count .count .given .1) (after-route .route .ensures) .0, length-take-le (after-count .count .given .0 .0) (after-route .route .last .1 .1 .1 .1 .1 .1 .0) (route-front (after-count .count .given .1) (after-route .route .ensures) .0), after-route .route .kept .1 .1 .1 .1 .1 .1 .0, after-route-buffer .route-buffer .ensures), route-front (after-count .count .given .1) (after-route .route .ensures) .1)
 
 returns : tie.Need-returns
 returns c = search needs

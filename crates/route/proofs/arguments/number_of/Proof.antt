@@ -31,8 +31,10 @@ goes-on-requires c κs = search needs
 
 returns-2 : tie.Need-returns-2 Inv-loop μ-loop
 returns-2 c =
-    no-digit (c .before .before .before .before .before .before .before .args .word .now) (c .before .before .before .before .loop .value) (c .before .before .before .before .loop .i) (omega arith) (sym (c .before .goes-on .ensures) ∙ not-true (c .before .goes-on .result) (c .if2 .taken))
-    ∙ c .before .before .before .before .loop .inv .2
+    let after-loop = c .before .before .before .before in
+    let start = after-loop .before .before .before in
+    no-digit (start .args .word .now) (after-loop .loop .value) (after-loop .loop .i) (omega arith)
+    (sym (c .before .goes-on .ensures) ∙ not-true (c .before .goes-on .result) (c .if2 .taken)) ∙ after-loop .loop .inv .2
 
 shared-slice-read-with-digit : tie.Need-shared-slice-read-with-digit Inv-loop μ-loop
 shared-slice-read-with-digit c = omega arith
@@ -47,14 +49,16 @@ loop-less : tie.Need-loop-less Inv-loop μ-loop
 loop-less c = omega arith
 
 loop-again : tie.Need-loop-again Inv-loop μ-loop
-loop-again c = (
-  omega arith,
-  c .with-digit .ensures .1,
-  rw (c .with-digit .ensures .0) (digit-passed (c .before .before .before .before .before .before .before .before .before .args .word .now) (c .before .before .before .before .before .before .loop .value) (c .before .before .before .before .before .before .loop .i) (omega arith) (sym (c .before .before .before .goes-on .ensures) ∙ not-false (c .before .before .before .goes-on .result) (c .before .before .if2 .left)) ∙ c .before .before .before .before .before .before .loop .inv .2),
-)
+loop-again c =
+    let after-goes-on = c .before .before .before in
+    let after-loop = after-goes-on .before .before .before in
+    let start = after-loop .before .before .before in
+    (omega arith, c .with-digit .ensures .1, rw (c .with-digit .ensures .0) (digit-passed (start .args .word .now) (after-loop .loop .value) (after-loop .loop .i) (omega arith) (sym (after-goes-on .goes-on .ensures) ∙ not-false (after-goes-on .goes-on .result) (c .before .before .if2 .left)) ∙ after-loop .loop .inv .2))
 
 returns-3 : tie.Need-returns-3 Inv-loop μ-loop
-returns-3 c = all-passed (c .before .before .before .before .args .word .now) (c .before .loop .value) (c .before .loop .i) (omega arith) ∙ c .before .loop .inv .2
+returns-3 c =
+    let start = c .before .before .before .before in
+    all-passed (start .args .word .now) (c .before .loop .value) (c .before .loop .i) (omega arith) ∙ c .before .loop .inv .2
 
 pub number-of-spec : {M : Type 1} → statement M
 number-of-spec =

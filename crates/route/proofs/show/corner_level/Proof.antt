@@ -24,23 +24,32 @@ enum-told-3 c = search needs
 
 returns : tie.Need-returns
 returns c =
-    let start = c .before .before .before .before .before in
-    told-level (start .args .net .now) (start .args .first) (start .args .second) (start .pre .0) (start .pre .1) (c .before .level .given .1) (c .before .before .before .judge-movement .ensures)
+    let after-judge-movement = c .before .before .before in
+    let after-before = after-judge-movement .before in
+    let start = after-before .before in
+    told-level (start .args .net .now) (start .args .first) (start .args .second) (start .pre .0) (start .pre .1) (c .before .level .given .1)
+    (after-judge-movement .judge-movement .ensures)
 
 returns-2 : tie.Need-returns-2
 returns-2 c =
-    let start = c .before .before .before .before in
-    absurd (not-refused (start .args .net .now) (start .args .first) (start .args .second) (start .pre .0) (start .pre .1) 8 (ap toldMovement (c .enum-told .given .1)) (c .before .before .judge-movement .ensures))
+    let after-before = c .before .before .before in
+    let start = after-before .before in
+    absurd
+    (not-refused (start .args .net .now) (start .args .first) (start .args .second) (start .pre .0) (start .pre .1) 8 (ap toldMovement (c .enum-told .given .1)) (c .before .before .judge-movement .ensures))
 
 returns-3 : tie.Need-returns-3
 returns-3 c =
-    let start = c .before .before .before .before in
-    absurd (not-refused (start .args .net .now) (start .args .first) (start .args .second) (start .pre .0) (start .pre .1) 12 (ap toldMovement (c .enum-told2 .given .1)) (c .before .before .judge-movement .ensures))
+    let after-before = c .before .before .before in
+    let start = after-before .before in
+    absurd
+    (not-refused (start .args .net .now) (start .args .first) (start .args .second) (start .pre .0) (start .pre .1) 12 (ap toldMovement (c .enum-told2 .given .1)) (c .before .before .judge-movement .ensures))
 
 returns-4 : tie.Need-returns-4
 returns-4 c =
-    let start = c .before .before .before .before in
-    absurd (not-refused (start .args .net .now) (start .args .first) (start .args .second) (start .pre .0) (start .pre .1) 13 (ap toldMovement (c .enum-told3 .given .1)) (c .before .before .judge-movement .ensures))
+    let after-before = c .before .before .before in
+    let start = after-before .before in
+    absurd
+    (not-refused (start .args .net .now) (start .args .first) (start .args .second) (start .pre .0) (start .pre .1) 13 (ap toldMovement (c .enum-told3 .given .1)) (c .before .before .judge-movement .ensures))
 
 pub corner-level-spec : {M : Type 1} → statement M
 corner-level-spec =

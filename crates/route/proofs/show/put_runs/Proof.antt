@@ -32,7 +32,9 @@ loop-holds : tie.Need-loop-holds Inv-loop μ-loop
 loop-holds c = (omega arith, omega (arith, c .put2 .ensures .end))
 
 put-step-requires : tie.Need-put-step-requires Inv-loop μ-loop
-put-step-requires c κs = (c .before .before .before .before .before .before .before .before .before .pre .0, c .before .before .before .before .before .before .before .before .before .pre .1, omega arith, omega arith)
+put-step-requires c κs =
+    let start = c .before .before .before .before .before .before .before .before .before in
+    (start .pre .0, start .pre .1, omega arith, omega arith)
 
 add-i : tie.Need-add-i Inv-loop μ-loop
 add-i c = omega arith

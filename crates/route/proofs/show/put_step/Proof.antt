@@ -19,7 +19,8 @@ cast-run c = omega (arith, c .shared-slice-known3 .given (c .before .before .bef
 
 put-run-requires : tie.Need-put-run-requires
 put-run-requires c κs =
-    (record { network = c .before .before .before .before .before .pre .0; inside = run-open (bicycle (c .before .before .before .before .before .args .net .now)) (c .before .before .before .before .before .args .from) (c .before .before .before .before .before .args .to) (c .before .before .before .before .before .args .i) (c .before .before .before .before .before .args .runs .now) (c .before .before .before .before .before .pre .1) (c .before .before .before .before .before .pre .2) .0 }, omega arith)
+    let start = c .before .before .before .before .before in
+    (record { network = start .pre .0; inside = run-open (bicycle (start .args .net .now)) (start .args .from) (start .args .to) (start .args .i) (start .args .runs .now) (start .pre .1) (start .pre .2) .0 }, omega arith)
 
 returns : tie.Need-returns
 returns c = search needs
@@ -38,14 +39,16 @@ cast-put-corner c = omega (arith, c .shared-slice-known4 .given (c .before .befo
 
 put-corner-requires : tie.Need-put-corner-requires
 put-corner-requires c κs =
-    (c .before .before .before .before .before .before .pre .0, corner-before (bicycle (c .before .before .before .before .before .before .args .net .now)) (c .before .before .before .before .before .before .args .from) (c .before .before .before .before .before .before .args .to) (c .before .before .before .before .before .before .args .i) (c .before .before .before .before .before .before .args .runs .now) (c .before .before .before .before .before .before .pre .1) (omega arith) (c .before .before .before .before .before .before .pre .2), omega arith)
+    let start = c .before .before .before .before .before .before in
+    (start .pre .0, corner-before (bicycle (start .args .net .now)) (start .args .from) (start .args .to) (start .args .i) (start .args .runs .now) (start .pre .1) (omega arith) (start .pre .2), omega arith)
 
 add-put-run : tie.Need-add-put-run
 add-put-run c = search needs
 
 put-run-requires-2 : tie.Need-put-run-requires-2
 put-run-requires-2 c κs =
-    (record { network = c .before .before .before .before .before .before .before .before .pre .0; inside = run-open (bicycle (c .before .before .before .before .before .before .before .before .args .net .now)) (c .before .before .before .before .before .before .before .before .args .from) (c .before .before .before .before .before .before .before .before .args .to) (c .before .before .before .before .before .before .before .before .args .i) (c .before .before .before .before .before .before .before .before .args .runs .now) (c .before .before .before .before .before .before .before .before .pre .1) (c .before .before .before .before .before .before .before .before .pre .2) .0 }, omega arith)
+    let start = c .before .before .before .before .before .before .before .before in
+    (record { network = start .pre .0; inside = run-open (bicycle (start .args .net .now)) (start .args .from) (start .args .to) (start .args .i) (start .args .runs .now) (start .pre .1) (start .pre .2) .0 }, omega arith)
 
 returns-2 : tie.Need-returns-2
 returns-2 c = search needs

@@ -29,11 +29,10 @@ same-length c = search needs
 
 returns : tie.Need-returns
 returns c =
-    let start = c .before .before .before .before .before .before in
-    record {
-      text = rw (c .before .before .copy .ensures .1) (copied-at (start .args .words .now) (start .args .out .now) (start .args .place) (length (start .args .out .now) - start .args .place) refl);
-      end = omega (arith, c .before .before .copy .ensures .0);
-    }
+    let after-before = c .before .before .before .before .before in
+    let start = after-before .before in
+    record
+    { text = rw (c .before .before .copy .ensures .1) (copied-at (start .args .words .now) (start .args .out .now) (start .args .place) (length (start .args .out .now) - start .args .place) refl); end = omega (arith, c .before .before .copy .ensures .0) }
 
 pub copy-at-spec : {M : Type 1} → statement M
 copy-at-spec =

@@ -17,17 +17,16 @@ slice-aggregate-put : tie.Need-slice-aggregate-put
 slice-aggregate-put c = search needs
 
 put-requires : tie.Need-put-requires
-put-requires c κs = omega (arith, length-take-le (c .before .before .decimal .result) (c .before .before .decimal .last .1 .0) (c .before .before .decimal .ensures .0 .0), at-most-20 (c .before .before .before .before .args .n) (c .before .before .decimal .result) (search needs) (c .before .before .decimal .ensures .1 .0))
+put-requires c κs =
+    let start = c .before .before .before .before in
+    omega
+    (arith, length-take-le (c .before .before .decimal .result) (c .before .before .decimal .last .1 .0) (c .before .before .decimal .ensures .0 .0), at-most-20 (start .args .n) (c .before .before .decimal .result) (search needs) (c .before .before .decimal .ensures .1 .0))
 
 returns : tie.Need-returns
-returns c = (
-  omega (arith, c .put .ensures .end, length-take-le (c .before .before .before .decimal .result) (c .before .before .before .decimal .last .1 .0) (c .before .before .before .decimal .ensures .0 .0), at-most-20 (c .before .before .before .before .before .args .n) (c .before .before .before .decimal .result) (search needs) (c .before .before .before .decimal .ensures .1 .0)),
-  record {
-    count = c .before .before .before .decimal .result;
-    fewest = c .before .before .before .decimal .ensures .1 .0;
-    wrote = rw (c .before .before .before .decimal .ensures .1 .1) at (c .put .ensures);
-  },
-)
+returns c =
+    let after-decimal = c .before .before .before in
+    let start = after-decimal .before .before in
+    (omega (arith, c .put .ensures .end, length-take-le (after-decimal .decimal .result) (after-decimal .decimal .last .1 .0) (after-decimal .decimal .ensures .0 .0), at-most-20 (start .args .n) (after-decimal .decimal .result) (search needs) (after-decimal .decimal .ensures .1 .0)), record { count = after-decimal .decimal .result; fewest = after-decimal .decimal .ensures .1 .0; wrote = rw (after-decimal .decimal .ensures .1 .1) at (c .put .ensures) })
 
 pub put-number-spec : {M : Type 1} → statement M
 put-number-spec =

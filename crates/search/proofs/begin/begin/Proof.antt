@@ -31,30 +31,39 @@ clear-labels-requires : tie.Need-clear-labels-requires Inv-loop μ-loop
 clear-labels-requires c κs = c .before .before .before .before .before .pre .3
 
 loop-holds : tie.Need-loop-holds Inv-loop μ-loop
-loop-holds c = (omega arith, started-none (c .before .before .clear-labels .ensures) (c .before .before .before .before .before .before .before .before .pre .5) _ _ _, refl, refl, refl)
+loop-holds c =
+    let start = c .before .before .before .before .before .before .before .before in
+    (omega arith, started-none (c .before .before .clear-labels .ensures) (start .pre .5) _ _ _, refl, refl, refl)
 
 mul-begin-at : tie.Need-mul-begin-at Inv-loop μ-loop
-mul-begin-at c = omega (arith, node-small (c .before .before .before .before .before .before .before .before .before .before .args .net .now) (c .before .before .before .before .before .before .before .before .before .before .pre .0 .network) (c .before .before .before .before .before .before .before .before .before .before .pre .2))
+mul-begin-at c =
+    let start = c .before .before .before .before .before .before .before .before .before .before in
+    omega (arith, node-small (start .args .net .now) (start .pre .0 .network) (start .pre .2))
 
 add-begin-at : tie.Need-add-begin-at Inv-loop μ-loop
-add-begin-at c = omega (arith, node-small (c .before .before .before .before .before .before .before .before .before .before .args .net .now) (c .before .before .before .before .before .before .before .before .before .before .pre .0 .network) (c .before .before .before .before .before .before .before .before .before .before .pre .2))
+add-begin-at c =
+    let start = c .before .before .before .before .before .before .before .before .before .before in
+    omega (arith, node-small (start .args .net .now) (start .pre .0 .network) (start .pre .2))
 
 mul-begin-at-2 : tie.Need-mul-begin-at-2 Inv-loop μ-loop
-mul-begin-at-2 c = omega (arith, node-small (c .before .before .before .before .before .before .before .before .before .before .args .net .now) (c .before .before .before .before .before .before .before .before .before .before .pre .0 .network) (c .before .before .before .before .before .before .before .before .before .before .pre .2))
+mul-begin-at-2 c =
+    let start = c .before .before .before .before .before .before .before .before .before .before in
+    omega (arith, node-small (start .args .net .now) (start .pre .0 .network) (start .pre .2))
 
 element-copy-out-begin-at : tie.Need-element-copy-out-begin-at Inv-loop μ-loop
-element-copy-out-begin-at c = omega (arith, node-small (c .before .before .before .before .before .before .before .before .before .before .args .net .now) (c .before .before .before .before .before .before .before .before .before .before .pre .0 .network) (c .before .before .before .before .before .before .before .before .before .before .pre .2))
+element-copy-out-begin-at c =
+    let start = c .before .before .before .before .before .before .before .before .before .before in
+    omega (arith, node-small (start .args .net .now) (start .pre .0 .network) (start .pre .2))
 
 begin-at-requires : tie.Need-begin-at-requires Inv-loop μ-loop
 begin-at-requires c κs =
-    let s = c .before .before .before .before .before .before .before .before .before .before .before .before .before .before in
-    let i = c .before .before .before .before .before .loop .inv in (
-      s .pre .0,
-      entry-few (s .pre .0) (entry-leaves (s .args .net .now) (s .pre .0 .network) (s .pre .1) (s .pre .2) (c .before .before .before .before .loop-test .taken)),
-      omega (arith, s .pre .3, i .2, c .before .before .before .before .before .before .before .before .clear-labels .kept .1 .0),
-      omega (arith, s .pre .4, i .3),
-      i .1 .queue,
-    )
+    let after-loop-test = c .before .before .before .before in
+    let after-loop = after-loop-test .before in
+    let after-clear-labels = after-loop .before .before .before in
+    let after-before = after-clear-labels .before .before .before .before .before in
+    let s = after-before .before in
+    let i = after-loop .loop .inv in
+    (s .pre .0, entry-few (s .pre .0) (entry-leaves (s .args .net .now) (s .pre .0 .network) (s .pre .1) (s .pre .2) (after-loop-test .loop-test .taken)), omega (arith, s .pre .3, i .2, after-clear-labels .clear-labels .kept .1 .0), omega (arith, s .pre .4, i .3), i .1 .queue)
 
 add-leg : tie.Need-add-leg Inv-loop μ-loop
 add-leg c = search needs
@@ -64,22 +73,16 @@ loop-less c = search needs
 
 loop-again : tie.Need-loop-again Inv-loop μ-loop
 loop-again c =
-    let s = c .before .before .before .before .before .before .before .before .before .before .before .before .before .before .before .before .before .before .before .before .before in
-    let i = c .before .before .before .before .before .before .before .before .before .before .before .before .loop .inv in
-    let o = c .before .before .before .before .before .before .begin-at in
-    let E = entry-leaves (s .args .net .now) (s .pre .0 .network) (s .pre .1) (s .pre .2) (c .before .before .before .before .before .before .before .before .before .before .before .loop-test .taken) in (
-      omega (arith, c .before .before .before .before .before .before .before .before .before .before .before .loop-test .taken),
-      started-more (i .1)
-          (λ r x.
-          let L = E .leaving r x in
-          (omega (arith, s .pre .0 .count, L .inside), source-usable L (s .args .tolerance)))
-          (omega (arith, s .pre .3, i .2, c .before .before .before .before .before .before .before .before .before .before .before .before .before .before .before .clear-labels .kept .1 .0))
-          (omega (arith, s .pre .4, i .3))
-          (o .ensures),
-      o .kept .1 .1 .1 .1 .0 ∙ i .2,
-      o .kept .1 .1 .1 .1 .1 .0 ∙ i .3,
-      o .kept .1 .1 .1 .1 .1 .1 .0 ∙ i .4,
-    )
+    let after-begin-at = c .before .before .before .before .before .before in
+    let after-loop-test = after-begin-at .before .before .before .before .before in
+    let after-loop = after-loop-test .before in
+    let after-clear-labels = after-loop .before .before .before in
+    let after-before = after-clear-labels .before .before .before .before .before in
+    let s = after-before .before in
+    let i = after-loop .loop .inv in
+    let o = after-begin-at .begin-at in
+    let E = entry-leaves (s .args .net .now) (s .pre .0 .network) (s .pre .1) (s .pre .2) (after-loop-test .loop-test .taken) in
+    (omega (arith, after-loop-test .loop-test .taken), started-more (i .1) (λ r x. let L = E .leaving r x in (omega (arith, s .pre .0 .count, L .inside), source-usable L (s .args .tolerance))) (omega (arith, s .pre .3, i .2, after-clear-labels .clear-labels .kept .1 .0)) (omega (arith, s .pre .4, i .3)) (o .ensures), o .kept .1 .1 .1 .1 .0 ∙ i .2, o .kept .1 .1 .1 .1 .1 .0 ∙ i .3, o .kept .1 .1 .1 .1 .1 .1 .0 ∙ i .4)
 
 same-length : tie.Need-same-length Inv-loop μ-loop
 same-length c = search needs

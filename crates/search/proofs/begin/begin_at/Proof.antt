@@ -27,14 +27,17 @@ feet-of-requires c κs = run-of (c .before .before .before .before .before .befo
 
 cast-label : tie.Need-cast-label
 cast-label c =
-    let F = fair (c .before .before .before .before .before .before .before .before .pre .0) in
-    omega (arith, c .feet-of .ensures, F .short (c .before .before .before .before .before .before .before .before .args .entry - 1) (omega arith), F .room)
+    let start = c .before .before .before .before .before .before .before .before in
+    let F = fair (start .pre .0) in
+    omega (arith, c .feet-of .ensures, F .short (start .args .entry - 1) (omega arith), F .room)
 
 write-label-requires : tie.Need-write-label-requires
 write-label-requires c κs =
-    let s = c .before .before .before .before .before .before .before .before .before .before .before in
+    let after-feet-of = c .before .before .before in
+    let after-before = after-feet-of .before .before .before .before .before .before .before in
+    let s = after-before .before in
     let F = fair (s .pre .0) in
-    (F .small, omega arith, omega (arith, c .before .before .before .feet-of .ensures, F .short (s .args .entry - 1) (omega arith), F .room), s .pre .2, s .pre .3, s .pre .4)
+    (F .small, omega arith, omega (arith, after-feet-of .feet-of .ensures, F .short (s .args .entry - 1) (omega arith), F .room), s .pre .2, s .pre .3, s .pre .4)
 
 same-length : tie.Need-same-length
 same-length c = search needs
@@ -46,7 +49,13 @@ same-length-3 : tie.Need-same-length-3
 same-length-3 c = search needs
 
 returns-2 : tie.Need-returns-2
-returns-2 c = first (rw (c .before .before .before .before .before .before .before .before .before .before .feet-of .ensures) at (c .before .before .before .before .before .before .write-label .ensures)) (omega arith) (sym (c .before .before .before .before .before .before .before .before .before .before .before .before .is-usable .ensures) ∙ c .before .before .before .before .before .before .before .before .before .before .before .if2 .taken)
+returns-2 c =
+    let after-write-label = c .before .before .before .before .before .before in
+    let after-feet-of = after-write-label .before .before .before .before in
+    let after-if2 = after-feet-of .before in
+    let after-is-usable = after-if2 .before in
+    first (rw (after-feet-of .feet-of .ensures) at (after-write-label .write-label .ensures)) (omega arith)
+    (sym (after-is-usable .is-usable .ensures) ∙ after-if2 .if2 .taken)
 
 returns-3 : tie.Need-returns-3
 returns-3 c =

@@ -39,25 +39,32 @@ same-length-2 c = search needs
 
 returns-2 : tie.Need-returns-2
 returns-2 c =
-    let s = c .before .before .before .before .before .before .before .before .before .before .before .before .before .before in
-    let e = c .before .before .before .before .before .before .before .before .segments-of .ensures in
-    (refl, stop-none (bicycle (s .args .net .now)) (s .args .tolerance) _ _ (fair (town (s .pre .0) refl)) (rw e at (c .before .before .before .before .before .nearest .ensures)) (c .before .before .before .before .before .before .before .before .before .if1 .left) (c .if2 .taken))
+    let after-nearest = c .before .before .before .before .before in
+    let after-segments-of = after-nearest .before .before .before in
+    let after-if1 = after-segments-of .before in
+    let after-before = after-if1 .before .before .before .before in
+    let s = after-before .before in
+    let e = after-segments-of .segments-of .ensures in
+    (refl, stop-none (bicycle (s .args .net .now)) (s .args .tolerance) _ _ (fair (town (s .pre .0) refl)) (rw e at (after-nearest .nearest .ensures)) (after-if1 .if1 .left) (c .if2 .taken))
 
 count-runs-requires : tie.Need-count-runs-requires
 count-runs-requires c κs =
-    let s = c .before .before .before .before .before .before .before .before .before .before .before .before .before .before .before in
-    let e = c .before .before .before .before .before .before .before .before .before .segments-of .ensures in
-    let o = c .before .before .before .before .before .before .nearest in (
-      few-runs (town (s .pre .0) e),
-      omega (arith, e, s .pre .7, o .kept .1 .1 .1 .1 .1 .1 .1 .0),
-      rw e (stop-ends (bicycle (s .args .net .now)) (s .args .tolerance) _ _ (fair (town (s .pre .0) refl)) (rw e at (o .ensures)) (c .before .if2 .left)),
-    )
+    let after-nearest = c .before .before .before .before .before .before in
+    let after-segments-of = after-nearest .before .before .before in
+    let after-before = after-segments-of .before .before .before .before .before in
+    let s = after-before .before in
+    let e = after-segments-of .segments-of .ensures in
+    let o = after-nearest .nearest in
+    (few-runs (town (s .pre .0) e), omega (arith, e, s .pre .7, o .kept .1 .1 .1 .1 .1 .1 .1 .0), rw e (stop-ends (bicycle (s .args .net .now)) (s .args .tolerance) _ _ (fair (town (s .pre .0) refl)) (rw e at (o .ensures)) (c .before .if2 .left)))
 
 route-level-requires : tie.Need-route-level-requires
 route-level-requires c κs =
-    let s = c .before .before .before .before .before .before .before .before .before .before .before .before .before .before .before .before .before in
-    let e = c .before .before .before .before .before .before .before .before .before .before .before .segments-of .ensures in
-    (town (s .pre .0) e, s .pre .1, omega (arith, e, s .pre .7, c .before .before .before .before .before .before .before .before .nearest .kept .1 .1 .1 .1 .1 .1 .1 .0), c .before .count-runs .ensures)
+    let after-nearest = c .before .before .before .before .before .before .before .before in
+    let after-segments-of = after-nearest .before .before .before in
+    let after-before = after-segments-of .before .before .before .before .before in
+    let s = after-before .before in
+    let e = after-segments-of .segments-of .ensures in
+    (town (s .pre .0) e, s .pre .1, omega (arith, e, s .pre .7, after-nearest .nearest .kept .1 .1 .1 .1 .1 .1 .1 .0), c .before .count-runs .ensures)
 
 mul-fill : tie.Need-mul-fill
 mul-fill c = search needs
@@ -73,14 +80,14 @@ part-fill-end c = search needs
 
 fill-requires : tie.Need-fill-requires
 fill-requires c κs =
-    let s = c .before .before .before .before .before .before .before .before .before .before .before .before .before .before .before .before .before .before .before .before in
-    let e = c .before .before .before .before .before .before .before .before .before .before .before .before .before .before .segments-of .ensures in
-    let K = c .before .before .before .before .count-runs .ensures in (
-      few-runs (town (s .pre .0) e),
-      omega (arith, e, s .pre .7, c .before .before .before .before .before .before .before .before .before .before .before .nearest .kept .1 .1 .1 .1 .1 .1 .1 .0),
-      simp (length-take, length-drop) (omega (arith, e, s .pre .8, K .few)),
-      K,
-    )
+    let after-count-runs = c .before .before .before .before in
+    let after-nearest = after-count-runs .before .before .before .before .before .before .before in
+    let after-segments-of = after-nearest .before .before .before in
+    let after-before = after-segments-of .before .before .before .before .before in
+    let s = after-before .before in
+    let e = after-segments-of .segments-of .ensures in
+    let K = after-count-runs .count-runs .ensures in
+    (few-runs (town (s .pre .0) e), omega (arith, e, s .pre .7, after-nearest .nearest .kept .1 .1 .1 .1 .1 .1 .1 .0), simp (length-take, length-drop) (omega (arith, e, s .pre .8, K .few)), K)
 
 cast-t34 : tie.Need-cast-t34
 cast-t34 c = search needs
@@ -96,11 +103,19 @@ same-length-5 c = search needs
 
 returns-3 : tie.Need-returns-3
 returns-3 c =
-    let s = c .before .before .before .before .before .before .before .before .before .before .before .before .before .before .before .before .before .before .before .before .before .before .before in
-    let e = c .before .before .before .before .before .before .before .before .before .before .before .before .before .before .before .before .before .segments-of .ensures in
-    let K = c .before .before .before .before .before .before .before .count-runs .ensures in
-    stop-written (bicycle (s .args .net .now)) (s .args .tolerance) _ _ (fair (town (s .pre .0) refl)) (rw e at (c .before .before .before .before .before .before .before .before .before .before .before .before .before .before .nearest .ensures)) (c .before .before .before .before .before .before .before .before .before .before .before .before .before .before .before .before .before .before .if1 .left) (c .before .before .before .before .before .before .before .before .before .if2 .left) (rw e at K)
-    (tail-placed K (s .args .place) (s .args .buffer .now) (c .before .before .fill .ensures)) (c .before .before .before .before .before .route-level .ensures)
+    let after-route-level = c .before .before .before .before .before in
+    let after-count-runs = after-route-level .before .before in
+    let after-if2 = after-count-runs .before .before in
+    let after-nearest = after-if2 .before .before .before .before .before in
+    let after-segments-of = after-nearest .before .before .before in
+    let after-if1 = after-segments-of .before in
+    let after-before = after-if1 .before .before .before .before in
+    let s = after-before .before in
+    let e = after-segments-of .segments-of .ensures in
+    let K = after-count-runs .count-runs .ensures in
+    stop-written (bicycle (s .args .net .now)) (s .args .tolerance) _ _ (fair (town (s .pre .0) refl)) (rw e at (after-nearest .nearest .ensures))
+    (after-if1 .if1 .left) (after-if2 .if2 .left) (rw e at K)
+    (tail-placed K (s .args .place) (s .args .buffer .now) (c .before .before .fill .ensures)) (after-route-level .route-level .ensures)
 
 pub find-spec : {M : Type 1} → statement M
 find-spec =

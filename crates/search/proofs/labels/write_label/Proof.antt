@@ -34,7 +34,9 @@ same-length-3 : tie.Need-same-length-3
 same-length-3 c = search needs
 
 returns : tie.Need-returns
-returns c = record { best-is = refl; previous-is = refl; queued = rw (c .before .before .before .before .key-of .ensures) at (c .before .before .put .ensures) }
+returns c =
+    let after-key-of = c .before .before .before .before in
+    record { best-is = refl; previous-is = refl; queued = rw (after-key-of .key-of .ensures) at (c .before .before .put .ensures) }
 
 pub write-label-spec : {M : Type 1} → statement M
 write-label-spec =

@@ -49,7 +49,8 @@ returns-2 c = search needs
 
 relax-right-requires : tie.Need-relax-right-requires
 relax-right-requires c κs =
-    let after-if3 = c .before .before .before .before in
+    let after-before = c .before .before .before in
+    let after-if3 = after-before .before in
     let after-if2 = after-if3 .before .before in
     let after-approach-of = after-if2 .before .before in
     let after-before = after-approach-of .before .before .before .before .before .before in

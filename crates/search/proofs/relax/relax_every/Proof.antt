@@ -38,7 +38,8 @@ same-length-3 c = search needs
 
 returns : tie.Need-returns
 returns c =
-    let after-relax-others = c .before .before .before .before .before .before in
+    let after-before = c .before .before .before .before .before in
+    let after-relax-others = after-before .before in
     let after-before = after-relax-others .before .before .before .before .before .before .before .before .before .before in
     let s = after-before .before in
     let o = after-relax-others .relax-others .ensures in

@@ -120,7 +120,8 @@ cast-write-label c =
 
 write-label-requires : tie.Need-write-label-requires
 write-label-requires c κs =
-    let after-feet-of = c .before .before .before .before .before .before .before .before in
+    let after-before = c .before .before .before .before .before .before .before in
+    let after-feet-of = after-before .before in
     let after-if1 = after-feet-of .before .before .before .before .before in
     let after-before = after-if1 .before .before .before .before in
     let s = after-before .before in
@@ -138,7 +139,8 @@ same-length-5 c = search needs
 
 returns-4 : tie.Need-returns-4
 returns-4 c =
-    let after-write-label = c .before .before .before .before .before .before in
+    let after-before = c .before .before .before .before .before in
+    let after-write-label = after-before .before in
     let after-feet-of = after-write-label .before .before .before .before .before .before .before .before .before in
     let after-if3 = after-feet-of .before in
     let after-is-usable = after-if3 .before in

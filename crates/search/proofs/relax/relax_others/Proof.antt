@@ -65,7 +65,8 @@ loop-less c = search needs
 
 loop-again : tie.Need-loop-again Inv-loop μ-loop
 loop-again c =
-    let after-relax-leg = c .before .before .before .before .before .before in
+    let after-before = c .before .before .before .before .before in
+    let after-relax-leg = after-before .before in
     let after-loop-test = after-relax-leg .before .before .before .before .before in
     let after-loop = after-loop-test .before in
     let after-before = after-loop .before .before .before .before .before in

@@ -15,7 +15,8 @@ right-hand-exit-requires c κs = search needs
 
 returns : tie.Need-returns
 returns c =
-    let after-before = c .before .before .before .before .before .before in
+    let after-before = c .before .before .before .before .before in
+    let after-before = after-before .before in
     let s = after-before .before in
     let x = right-exit (s .pre .0) (s .pre .1) (s .pre .2) (c .before .before .right-hand-exit .result) (c .before .before .right-hand-exit .ensures)
     in
@@ -26,25 +27,29 @@ mul-entry c = search needs
 
 add-entry : tie.Need-add-entry
 add-entry c =
-    let start = c .before .before .before .before .before .before .before in
+    let after-before = c .before .before .before .before .before .before in
+    let start = after-before .before in
     omega
     (arith, start .pre .2 .at-node .few, right-exit (start .pre .0) (start .pre .1) (start .pre .2) (c .before .before .right-hand-exit .result) (c .before .before .right-hand-exit .ensures) .0)
 
 mul-entry-2 : tie.Need-mul-entry-2
 mul-entry-2 c =
-    let start = c .before .before .before .before .before .before .before in
+    let after-before = c .before .before .before .before .before .before in
+    let start = after-before .before in
     omega
     (arith, start .pre .2 .at-node .few, right-exit (start .pre .0) (start .pre .1) (start .pre .2) (c .before .before .right-hand-exit .result) (c .before .before .right-hand-exit .ensures) .0)
 
 element-copy-out-entry : tie.Need-element-copy-out-entry
 element-copy-out-entry c =
-    let start = c .before .before .before .before .before .before .before in
+    let after-before = c .before .before .before .before .before .before in
+    let start = after-before .before in
     omega
     (arith, start .pre .2 .at-node .few, right-exit (start .pre .0) (start .pre .1) (start .pre .2) (c .before .before .right-hand-exit .result) (c .before .before .right-hand-exit .ensures) .0)
 
 relax-leg-requires : tie.Need-relax-leg-requires
 relax-leg-requires c κs =
-    let after-if1 = c .before .before .before .before in
+    let after-before = c .before .before .before in
+    let after-if1 = after-before .before in
     let after-right-hand-exit = after-if1 .before .before in
     let after-before = after-right-hand-exit .before .before .before .before in
     let s = after-before .before in
@@ -61,16 +66,15 @@ same-length-3 c = search needs
 
 returns-2 : tie.Need-returns-2
 returns-2 c =
-    let after-relax-leg = c .before .before .before .before .before .before in
+    let after-before = c .before .before .before .before .before in
+    let after-relax-leg = after-before .before in
     let after-if1 = after-relax-leg .before .before .before .before .before in
     let after-right-hand-exit = after-if1 .before .before in
     let after-before = after-right-hand-exit .before .before .before .before in
     let s = after-before .before in
-    let x =
-    right-exit (s .pre .0) (s .pre .1) (s .pre .2) (after-right-hand-exit .right-hand-exit .result)
-    (after-right-hand-exit .right-hand-exit .ensures) in
-    let W = right-way (s .pre .0) (s .pre .1) (s .pre .2) (s .pre .3) (after-right-hand-exit .right-hand-exit .ensures) (after-if1 .if1 .left) in
-    let o = after-relax-leg .relax-leg .ensures in
+    let x = right-exit (s .pre .0) (s .pre .1) (s .pre .2) (after-right-hand-exit .right-hand-exit .result)
+    (after-right-hand-exit .right-hand-exit .ensures) in let W = right-way (s .pre .0) (s .pre .1) (s .pre .2) (s .pre .3)
+    (after-right-hand-exit .right-hand-exit .ensures) (after-if1 .if1 .left) in let o = after-relax-leg .relax-leg .ensures in
     (relaxed-one (λ r l none e. right-at (s .pre .0) (s .pre .1) (s .pre .2) (s .pre .3) (x .1) r l e) (W .inside) (s .pre .4 .long) (s .pre .4 .long′) (o .0), o .1)
 
 pub relax-right-spec : {M : Type 1} → statement M

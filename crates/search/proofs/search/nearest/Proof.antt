@@ -17,8 +17,11 @@ slice-aggregate-search-to c = search needs
 
 search-to-requires : tie.Need-search-to-requires
 search-to-requires c κs =
-    let s = c .before .before .before .before .before .before .before .before .before in
-    (s .pre .0, s .pre .1, s .pre .2, s .pre .3, s .pre .4, s .pre .5, c .before .before .before .before .before .no-keys .ensures _ (few-runs (s .pre .0)), c .before .before .before .before .all-left .ensures)
+    let after-all-left = c .before .before .before .before in
+    let after-no-keys = after-all-left .before in
+    let after-before = after-no-keys .before .before .before in
+    let s = after-before .before in
+    (s .pre .0, s .pre .1, s .pre .2, s .pre .3, s .pre .4, s .pre .5, after-no-keys .no-keys .ensures _ (few-runs (s .pre .0)), after-all-left .all-left .ensures)
 
 same-length : tie.Need-same-length
 same-length c = search needs

@@ -102,19 +102,15 @@ loop-less c =
 
 loop-again : tie.Need-loop-again Inv-loop μ-loop
 loop-again c =
-    let after-settle = c .before .before .before .before .before .before in
+    let after-before = c .before .before .before .before .before in
+    let after-settle = after-before .before in
     let after-if1 = after-settle .before .before .before .before .before in
     let after-arrives-at = after-if1 .before in
     let after-loop-test = after-arrives-at .before in
     let after-loop = after-loop-test .before in
-    let after-before =
-    after-loop .before .before .before .before .before .before .before .before .before .before .before .before .before .before .before .before in
-    let s = after-before .before in
-    let i = after-loop .loop .inv in
-    let o = after-settle .settle in
-    let N = o .ensures .1 in
-    let away = sym (after-arrives-at .arrives-at .ensures) ∙ after-if1 .if1 .left in
-    let z = noted-elsewhere N (s .args .to) away (i .5) in
+    let after-before = after-loop .before .before .before .before .before .before .before .before .before .before .before .before .before .before
+    .before .before in let s = after-before .before in let i = after-loop .loop .inv in let o = after-settle .settle in let N = o .ensures .1 in let
+    away = sym (after-arrives-at .arrives-at .ensures) ∙ after-if1 .if1 .left in let z = noted-elsewhere N (s .args .to) away (i .5) in
     (o .kept .1 .1 .1 .1 .1 .0 ∙ i .0, o .kept .1 .1 .1 .1 .1 .1 .0 ∙ i .1, o .kept .1 .1 .1 .1 .1 .1 .1 .0 ∙ i .2, search-more (fair (s .pre .0)) (i .3) (after-loop-test .loop-test .taken) (o .ensures .0) (left-spent (s .pre .0) (s .args .from) (s .args .to) (N .right) z) away, N .right, z)
 
 same-length-4 : tie.Need-same-length-4 Inv-loop μ-loop

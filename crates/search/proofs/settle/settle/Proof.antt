@@ -26,7 +26,8 @@ arrival-leg-requires c κs =
 
 relax-requires : tie.Need-relax-requires
 relax-requires c κs =
-    let after-arrival-leg = c .before .before .before .before in
+    let after-before = c .before .before .before in
+    let after-arrival-leg = after-before .before in
     let after-finish-of = after-arrival-leg .before in
     let after-put = after-finish-of .before .before .before in
     let after-before = after-put .before .before .before .before .before in

@@ -16,7 +16,9 @@ level-onto-requires : tie.Need-level-onto-requires
 level-onto-requires c κs = search needs
 
 returns : tie.Need-returns
-returns c = c .level-onto .ensures ∙ level-of-movement (c .before .before .arrival-of .ensures) (c .before .before .before .before .args .next) _ (c .before .leaving-leg .ensures .is)
+returns c =
+    let start = c .before .before .before .before in
+    c .level-onto .ensures ∙ level-of-movement (c .before .before .arrival-of .ensures) (start .args .next) _ (c .before .leaving-leg .ensures .is)
 
 pub movement-level-spec : {M : Type 1} → statement M
 movement-level-spec =

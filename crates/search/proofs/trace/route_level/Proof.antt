@@ -47,7 +47,11 @@ greater-requires : tie.Need-greater-requires Inv-loop μ-loop
 greater-requires c κs = search needs
 
 run-level-requires-2 : tie.Need-run-level-requires-2 Inv-loop μ-loop
-run-level-requires-2 c κs = run-of (c .before .before .before .before .before .before .before .before .pre .0) (levelled-inside (c .before .before .before .before .loop .inv) (c .before .before .before .loop-test .taken))
+run-level-requires-2 c κs =
+    let after-loop-test = c .before .before .before in
+    let after-loop = after-loop-test .before in
+    let start = after-loop .before .before .before .before in
+    run-of (start .pre .0) (levelled-inside (after-loop .loop .inv) (after-loop-test .loop-test .taken))
 
 greater-requires-2 : tie.Need-greater-requires-2 Inv-loop μ-loop
 greater-requires-2 c κs = search needs
@@ -60,10 +64,11 @@ loop-less c = search needs
 
 loop-again : tie.Need-loop-again Inv-loop μ-loop
 loop-again c =
-    levelled-more (c .before .before .before .before .before .before .loop .inv) (c .before .before .before .before .before .loop-test .taken)
-    (c .greater2 .ensures
-    ∙ ap₂ max (c .before .run-level2 .ensures)
-    (c .before .before .greater .ensures ∙ ap (λ (x : ℕ). max x (c .before .before .before .before .before .before .loop .level)) (c .before .before .before .movement-level .ensures)))
+    let after-movement-level = c .before .before .before in
+    let after-loop-test = after-movement-level .before .before in
+    let after-loop = after-loop-test .before in
+    levelled-more (after-loop .loop .inv) (after-loop-test .loop-test .taken)
+    (c .greater2 .ensures ∙ ap₂ max (c .before .run-level2 .ensures) (c .before .before .greater .ensures ∙ ap (λ (x : ℕ). max x (after-loop .loop .level)) (after-movement-level .movement-level .ensures)))
 
 returns : tie.Need-returns Inv-loop μ-loop
 returns c = levelled-all (c .before .loop .inv) (omega arith)

@@ -17,7 +17,9 @@ run-level-requires c κs = search needs
 
 returns : tie.Need-returns
 unfolding usable
-returns c = simp (sym (c .before .before .is-open .ensures) ∙ c .before .if1 .taken) (ap (λ (x : ℕ). leb x (c .before .before .before .before .args .tolerance)) (c .run-level .ensures))
+returns c =
+    let start = c .before .before .before .before in
+    simp (sym (c .before .before .is-open .ensures) ∙ c .before .if1 .taken) (ap (λ (x : ℕ). leb x (start .args .tolerance)) (c .run-level .ensures))
 
 returns-2 : tie.Need-returns-2
 unfolding usable
