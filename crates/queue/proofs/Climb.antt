@@ -5,7 +5,7 @@
 use mathlib.Core.Path.{_≡_, refl, sym, _∙_, ap}
 use mathlib.Core.List.{List}
 use mathlib.Core.Logic.{⊎-elim}
-use Prim.Native.Nat.{ℕ, _+_, _*_, _-_, _/_, _≤_, _<_, min}
+use Prim.Native.Nat.{ℕ, _+_, _*_, _-_, _/_, _≤_, _<_, max}
 use native.Mathlib.Omega.{arith}
 use lib.ListN.{length, set, length-set}
 use lib.Seq.{getD-set-same, getD-set-other}
@@ -19,20 +19,20 @@ pub record Climb (start tree : List ℕ) (n i winner : ℕ) : Type 0 where
   pub same : length tree ≡ length start
   pub root : 2 ≤ length tree
   pub long : n + n ≤ length tree
-  pub bounded : (r : ℕ) → r < n → keyOf tree n r ≤ top
-  pub node : (j : ℕ) → 1 ≤ j → j < n → (j ≡ i / 2 → ⊥) → at tree j ≡ min (at tree (2 * j)) (at tree (2 * j + 1))
+  pub bounded : (r : ℕ) → r < n → at tree (n + r) ≤ top
+  pub node : (j : ℕ) → 1 ≤ j → j < n → (j ≡ i / 2 → ⊥) → at tree j ≡ max (at tree (2 * j)) (at tree (2 * j + 1))
   pub leaf : (q : ℕ) → n ≤ q → at tree q ≡ at start q
   pub here : winner ≡ at tree i
 
 module _ {before : List ℕ} {n r key : ℕ} (Q : Queue before n) (inside : r < n) (small : key ≤ top) where
   -- the first store
-  stored : keyOf (set before (n + r) key) n r ≡ key
-  stored = getD-set-same before (n + r) key 0 (omega (arith, Q .long))
+  stored : at (set before (n + r) (top - key)) (n + r) ≡ top - key
+  stored = getD-set-same before (n + r) (top - key) 0 (omega (arith, Q .long))
 
-  kept : (q : ℕ) → (q ≡ n + r → ⊥) → at (set before (n + r) key) q ≡ at before q
-  kept q e = getD-set-other before (n + r) q key 0 e
+  kept : (q : ℕ) → (q ≡ n + r → ⊥) → at (set before (n + r) (top - key)) q ≡ at before q
+  kept q e = getD-set-other before (n + r) q (top - key) 0 e
 
-  pub climb-start : Climb (set before (n + r) key) (set before (n + r) key) n (n + r) key
+  pub climb-start : Climb (set before (n + r) (top - key)) (set before (n + r) (top - key)) n (n + r) (top - key)
   climb-start =
       record {
         from = omega arith;
@@ -42,7 +42,7 @@ module _ {before : List ℕ} {n r key : ℕ} (Q : Queue before n) (inside : r < 
         long = simp length-set (Q .long);
         bounded = λ q l.
             ⊎-elim
-            (λ (e : q ≡ r). rw e (rw stored small))
+            (λ (e : q ≡ r). rw e (omega (arith, stored)))
             (λ (e : q ≡ r → ⊥). rw (kept (n + q) (λ (h : n + q ≡ n + r). e (omega arith))) (Q .bounded q l))
             (eq-or-ne q r);
         node = λ j f t e.
@@ -57,18 +57,20 @@ module _ {before : List ℕ} {n r key : ℕ} (Q : Queue before n) (inside : r < 
       }
 
   -- when the tree is right again, the key is put
-  pub climb-put : {tree : List ℕ} {i winner : ℕ} → Climb (set before (n + r) key) tree n i winner → Queue tree n → Put before tree n r key
+  pub climb-put : {tree : List ℕ} {i winner : ℕ} → Climb (set before (n + r) (top - key)) tree n i winner → Queue tree n → Put before tree n r key
+  unfolding keyOf
   climb-put C T =
       record {
         queue = T;
-        here = C .leaf (n + r) (omega arith) ∙ stored;
-        others = λ q l e. C .leaf (n + q) (omega arith) ∙ kept (n + q) (λ (h : n + q ≡ n + r). e (omega arith));
+        here = omega (arith, C .leaf (n + r) (omega arith), stored);
+        others = λ q l e.
+            ap (λ (x : ℕ). top - x) (C .leaf (n + q) (omega arith) ∙ kept (n + q) (λ (h : n + q ≡ n + r). e (omega arith)));
       }
 
 module _ {start tree : List ℕ} {n i winner next : ℕ} (C : Climb start tree n i winner) (up : 1 < i)
-    (won : next ≡ min winner (at tree (4 * (i / 2) + 1 - i))) where
+    (won : next ≡ max winner (at tree (4 * (i / 2) + 1 - i))) where
   -- i and its sibling are the two children of i / 2
-  of-children : next ≡ min (at tree (2 * (i / 2))) (at tree (2 * (i / 2) + 1))
+  of-children : next ≡ max (at tree (2 * (i / 2))) (at tree (2 * (i / 2) + 1))
   of-children =
       ⊎-elim
       (λ (s : i ≡ 2 * (i / 2)).

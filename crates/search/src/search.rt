@@ -56,7 +56,7 @@ fn search_to(
 fn no_keys() -> [u64; 4000]
     ensures { λ r. ⌜ NoKeys r ⌝ }
 {
-    [TOP; 4000]
+    [0u64; 4000]
 }
 
 // The whole search: the key of the nearest run that arrives at `to`; TOP where none does.

@@ -17,6 +17,9 @@ abbrev μ-loop : tie.MeasureT-loop
 add-i : tie.Need-add-i Inv-loop μ-loop
 add-i c = search needs
 
+sub-winner : tie.Need-sub-winner Inv-loop μ-loop
+sub-winner c = search needs
+
 mul-tree : tie.Need-mul-tree Inv-loop μ-loop
 mul-tree c = search needs
 
@@ -26,23 +29,23 @@ slice-write-tree c = search needs
 loop-holds : tie.Need-loop-holds Inv-loop μ-loop
 loop-holds c = climb-start (c .before .pre .0) (c .before .pre .1) (c .before .pre .2)
 
-mul-lesser : tie.Need-mul-lesser Inv-loop μ-loop
-mul-lesser c = search needs
+mul-greater : tie.Need-mul-greater Inv-loop μ-loop
+mul-greater c = search needs
 
-add-lesser : tie.Need-add-lesser Inv-loop μ-loop
-add-lesser c = search needs
+add-greater : tie.Need-add-greater Inv-loop μ-loop
+add-greater c = search needs
 
-sub-lesser : tie.Need-sub-lesser Inv-loop μ-loop
-sub-lesser c = search needs
+sub-greater : tie.Need-sub-greater Inv-loop μ-loop
+sub-greater c = search needs
 
-mul-lesser-2 : tie.Need-mul-lesser-2 Inv-loop μ-loop
-mul-lesser-2 c = search needs
+mul-greater-2 : tie.Need-mul-greater-2 Inv-loop μ-loop
+mul-greater-2 c = search needs
 
-slice-read-lesser : tie.Need-slice-read-lesser Inv-loop μ-loop
-slice-read-lesser c = search needs
+slice-read-greater : tie.Need-slice-read-greater Inv-loop μ-loop
+slice-read-greater c = search needs
 
-lesser-requires : tie.Need-lesser-requires Inv-loop μ-loop
-lesser-requires c κs = search needs
+greater-requires : tie.Need-greater-requires Inv-loop μ-loop
+greater-requires c κs = search needs
 
 mul-if1 : tie.Need-mul-if1 Inv-loop μ-loop
 mul-if1 c = search needs
@@ -58,7 +61,7 @@ returns c =
     let s = c .before .before .before .before .before .before .before in
     let k = c .before .before .before .before .before .loop in
     let u : 1 < k .i = omega (arith, c .before .before .before .before .loop-test .taken) in
-    climb-put (s .pre .0) (s .pre .1) (s .pre .2) (k .inv) (climb-stop (k .inv) u (c .before .before .lesser .ensures) (c .if1 .taken))
+    climb-put (s .pre .0) (s .pre .1) (s .pre .2) (k .inv) (climb-stop (k .inv) u (c .before .before .greater .ensures) (c .if1 .taken))
 
 mul-tree-2 : tie.Need-mul-tree-2 Inv-loop μ-loop
 mul-tree-2 c = search needs
@@ -74,7 +77,7 @@ loop-again c =
     climb-more
     (c .before .before .before .before .before .loop .inv)
     (omega (arith, c .before .before .before .before .loop-test .taken))
-    (c .before .before .lesser .ensures)
+    (c .before .before .greater .ensures)
 
 same-length-2 : tie.Need-same-length-2 Inv-loop μ-loop
 same-length-2 c = simp length-set at (c .before .loop .inv .same)
@@ -92,15 +95,16 @@ put-spec =
     Inv-loop
     μ-loop
     add-i
+    sub-winner
     mul-tree
     slice-write-tree
     loop-holds
-    mul-lesser
-    add-lesser
-    sub-lesser
-    mul-lesser-2
-    slice-read-lesser
-    lesser-requires
+    mul-greater
+    add-greater
+    sub-greater
+    mul-greater-2
+    slice-read-greater
+    greater-requires
     mul-if1
     slice-read-if1
     same-length
