@@ -5,7 +5,7 @@
 use mathlib.Core.Path.{_≡_, refl, sym, _∙_, ap}
 use mathlib.Core.List.{List}
 use mathlib.Core.Logic.{⊎-elim}
-use Prim.Native.Nat.{ℕ, _+_, _*_, _-_, _/_, _≤_, _<_, max}
+use Prim.Native.Nat.{ℕ, _+_, _*_, _-_, _/_, _%_, _≤_, _<_, max}
 use native.Mathlib.Omega.{arith}
 use lib.ListN.{length, set, length-set}
 use lib.Seq.{getD-set-same, getD-set-other}
@@ -65,18 +65,18 @@ module _ {before : List ℕ} {n r key : ℕ} (Q : Queue before n) (inside : r < 
         others = λ q l e. ap (λ (x : ℕ). top - x) (C .leaf (n + q) (omega arith) ∙ kept (n + q) (λ (h : n + q ≡ n + r). e (omega arith)));
       }
 
-module _ {start tree : List ℕ} {n i winner next : ℕ} (C : Climb start tree n i winner) (up : 1 < i)
-    (won : next ≡ max winner (at tree (4 * (i / 2) + 1 - i))) where
+module _ {start tree : List ℕ} {n i winner s next : ℕ} (C : Climb start tree n i winner) (up : 1 < i) (sibling : s ≡ i + 1 - 2 * (i % 2))
+    (won : next ≡ max winner (at tree s)) where
   -- i and its sibling are the two children of i / 2
   of-children : next ≡ max (at tree (2 * (i / 2))) (at tree (2 * (i / 2) + 1))
   of-children =
       ⊎-elim
-      (λ (s : i ≡ 2 * (i / 2)).
-      let o : 4 * (i / 2) + 1 - i ≡ 2 * (i / 2) + 1 = omega arith in
-      omega (arith, C .here, ap (at tree) s, ap (at tree) o))
-      (λ (s : i ≡ 2 * (i / 2) → ⊥).
+      (λ (e : i ≡ 2 * (i / 2)).
+      let o : s ≡ 2 * (i / 2) + 1 = omega arith in
+      omega (arith, C .here, ap (at tree) e, ap (at tree) o))
+      (λ (e : i ≡ 2 * (i / 2) → ⊥).
       let odd : i ≡ 2 * (i / 2) + 1 = omega arith in
-      let o : 4 * (i / 2) + 1 - i ≡ 2 * (i / 2) = omega arith in
+      let o : s ≡ 2 * (i / 2) = omega arith in
       omega (arith, C .here, ap (at tree) odd, ap (at tree) o))
       (eq-or-ne i (2 * (i / 2)))
 
@@ -123,14 +123,14 @@ module _ {start tree : List ℕ} {n i winner next : ℕ} (C : Climb start tree n
 
   -- the node above is right already
   pub climb-stop : at tree (i / 2) ≡ next → Queue tree n
-  climb-stop s =
+  climb-stop same =
       record {
         root = C .root;
         long = C .long;
         bounded = C .bounded;
         node = λ j f t.
             ⊎-elim
-            (λ (h : j ≡ i / 2). rw h (s ∙ of-children))
+            (λ (h : j ≡ i / 2). rw h (same ∙ of-children))
             (λ (h : j ≡ i / 2 → ⊥). C .node j f t h)
             (eq-or-ne j (i / 2));
         none = λ z. absurd (omega (arith, C .to));

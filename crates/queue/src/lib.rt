@@ -3,7 +3,7 @@
 // node i, from the root 1 to n - 1, is the greater of its children 2i and 2i + 1, so that the root tells the least key. Inserting, changing and removing
 // a key are one store and one climb. Element 0 is not used.
 ghost use mathlib.Core.Path.{_≡_};
-ghost use Prim.Native.Nat.{_≤_, _<_, max};
+ghost use Prim.Native.Nat.{_+_, _*_, _-_, _%_, _≤_, _<_, max};
 ghost use Rattle.queue.specs.Queue.{top, Queue, Put, Front};
 
 // No key: every key is less.
@@ -15,7 +15,14 @@ fn greater(a: u64, b: u64) -> u64
     if a < b { b } else { a }
 }
 
-// Gives an entry the key, in place of the one that it has; TOP removes it.
+// The other child of the same parent: of 2i and 2i + 1, the one with the other last bit.
+fn sibling(i: usize) -> usize
+    ensures { λ r. ⌜ r ≡ i + 1 - 2 * (i % 2) ⌝ }
+{
+    i ^ 1
+}
+
+// Gives an entry the key, in place of the one that it has. The climb ends where the winner is the old one.
 pub fn put(n: usize, entry: usize, key: u64, tree: &mut [u64])
     requires { ⌜ Queue (now tree) n × (entry < n) × (key ≤ top) ⌝ }
     ensures { λ _. ⌜ Put (now (tree .entry)) (now (tree .exit)) n entry key ⌝ }
@@ -25,13 +32,27 @@ pub fn put(n: usize, entry: usize, key: u64, tree: &mut [u64])
     tree[i] = winner;
     while 1 < i {
         let parent = i / 2;
-        // against its sibling, the other child of the parent
-        winner = greater(winner, tree[4 * parent + 1 - i]);
+        winner = greater(winner, tree[sibling(i)]);
         if tree[parent] == winner {
             return;
         }
         tree[parent] = winner;
         i = parent;
+    }
+}
+
+// Takes the key of an entry away. The one that is taken is most often the least, which every node above it told: the climb goes on to the root.
+pub fn remove(n: usize, entry: usize, tree: &mut [u64])
+    requires { ⌜ Queue (now tree) n × (entry < n) ⌝ }
+    ensures { λ _. ⌜ Put (now (tree .entry)) (now (tree .exit)) n entry top ⌝ }
+{
+    let mut node = n + entry;
+    let mut winner: u64 = 0;
+    tree[node] = winner;
+    while 1 < node {
+        winner = greater(winner, tree[sibling(node)]);
+        node = node / 2;
+        tree[node] = winner;
     }
 }
 

@@ -9,9 +9,8 @@ ghost use Rattle.search.specs.Town.{mostRunFeet, Town};
 ghost use Rattle.search.specs.Left.{Left, spentOf, Noted};
 use crate::relax::Reached;
 use crate::relax::relax;
-use queue::TOP;
 use queue::least;
-use queue::put;
+use queue::remove;
 use streets::runs::arrival_leg;
 use streets::runs::finish_of;
 
@@ -33,7 +32,7 @@ pub fn settle(
 {
     let run = (key % 65536) as usize;
     let label = (key / 65536) as u32;
-    put(n, run, TOP, tree);
+    remove(n, run, tree);
     let here = Reached {
         run,
         label,

@@ -88,7 +88,7 @@ impl Call {
 }
 
 /// How many different questions a town is asked, again and again.
-pub const QUESTIONS: usize = 64;
+pub const QUESTIONS: usize = 128;
 
 /// A town, the questions it is asked, and what is lent for them.
 ///

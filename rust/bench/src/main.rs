@@ -5,16 +5,19 @@ use bench::clock::microseconds;
 use bench::{Call, Side, Subject, QUESTIONS};
 use std::fs;
 use twin::gen::{self, Shape};
+use twin::Town;
 
 /// Sizes of the first table, in segments; growth is from the first to the
 /// last.
 const SIZES: [usize; 4] = [125, 250, 500, 1_000];
 /// Samples of each side; odd, so that one is the median.
-const SAMPLES: usize = 41;
+const SAMPLES: usize = 15;
 /// A sample takes at least so many microseconds.
 const SAMPLE: f64 = 500.0;
-/// Where the towns and questions come from.
-const SEED: u64 = 11;
+/// Where the towns and questions come from: a town and its questions for each.
+/// With so many the processor cannot learn the branches of small towns by
+/// heart, and how much of a single town can be reached does not decide.
+const SEEDS: std::ops::Range<u64> = 11..19;
 
 /// Microseconds for one call, each side's median, and the median of the ratios
 /// of samples taken one after the other.
@@ -36,12 +39,17 @@ impl Times {
     }
 }
 
-/// Microseconds for one call, as a mean over every question so many times.
-fn sample(subject: &mut Subject, side: Side, call: Call, rounds: usize) -> f64 {
-    let calls = rounds * QUESTIONS;
+/// Microseconds for one call, as a mean over every town's questions so many
+/// times.
+fn sample(towns: &mut [Subject], side: Side, call: Call, rounds: usize) -> f64 {
+    let calls = rounds * towns.len() * QUESTIONS;
     let start = microseconds();
-    for question in 0..calls {
-        subject.ask(side, call, question);
+    for _ in 0..rounds {
+        for question in 0..QUESTIONS {
+            for town in &mut *towns {
+                town.ask(side, call, question);
+            }
+        }
     }
     (microseconds() - start) / calls as f64
 }
@@ -52,16 +60,16 @@ fn median(mut samples: Vec<f64>) -> f64 {
 }
 
 /// Both sides by turns, each first in every other turn.
-fn time(subject: &mut Subject, call: Call) -> Times {
-    let once = sample(subject, Side::Twin, call, 1) * QUESTIONS as f64;
+fn time(towns: &mut [Subject], call: Call) -> Times {
+    let once = sample(towns, Side::Twin, call, 1) * (towns.len() * QUESTIONS) as f64;
     let rounds = 1 + (SAMPLE / once) as usize;
     let mut turn = |turn: usize| {
         if turn.is_multiple_of(2) {
-            let archive = sample(subject, Side::Archive, call, rounds);
-            (archive, sample(subject, Side::Twin, call, rounds))
+            let archive = sample(towns, Side::Archive, call, rounds);
+            (archive, sample(towns, Side::Twin, call, rounds))
         } else {
-            let twin = sample(subject, Side::Twin, call, rounds);
-            (sample(subject, Side::Archive, call, rounds), twin)
+            let twin = sample(towns, Side::Twin, call, rounds);
+            (sample(towns, Side::Archive, call, rounds), twin)
         }
     };
     let turns: Vec<(f64, f64)> = (0..SAMPLES).map(&mut turn).collect();
@@ -72,27 +80,36 @@ fn time(subject: &mut Subject, call: Call) -> Times {
     }
 }
 
-/// How many of the questions have a route.
-fn found(subject: &mut Subject, call: Call) -> usize {
-    (0..QUESTIONS)
-        .filter(|&question| subject.ask(Side::Archive, call, question).1)
-        .count()
+/// How many of a hundred questions have a route.
+fn found(towns: &mut [Subject], call: Call) -> usize {
+    let asked = towns.len() * QUESTIONS;
+    let routes: usize = towns
+        .iter_mut()
+        .map(|town| {
+            (0..QUESTIONS)
+                .filter(|&question| town.ask(Side::Archive, call, question).1)
+                .count()
+        })
+        .sum();
+    (100 * routes + asked / 2) / asked
+}
+
+/// A town of each seed, with its questions.
+fn subjects(town: impl Fn(u64) -> Town) -> Vec<Subject> {
+    SEEDS.map(|seed| Subject::new(&town(seed), seed)).collect()
 }
 
 /// The table over the sizes of one kind of town.
 fn by_size() {
-    let mut subjects: Vec<Subject> = SIZES
+    let mut sizes: Vec<Vec<Subject>> = SIZES
         .iter()
-        .map(|&segments| Subject::new(&gen::mixed_grid(SEED, segments), SEED))
+        .map(|&segments| subjects(|seed| gen::mixed_grid(seed, segments)))
         .collect();
     print!("| call |");
     SIZES.iter().for_each(|size| print!(" {size} segments |"));
     println!(" growth |\n|---|---|---|---|---|---|");
     for call in Call::ALL {
-        let times: Vec<Times> = subjects
-            .iter_mut()
-            .map(|subject| time(subject, call))
-            .collect();
+        let times: Vec<Times> = sizes.iter_mut().map(|towns| time(towns, call)).collect();
         print!("| {} |", call.title());
         times.iter().for_each(|each| print!(" {} |", each.cell()));
         let (first, last) = (times[0], times[times.len() - 1]);
@@ -102,10 +119,10 @@ fn by_size() {
             last.twin / first.twin
         );
     }
-    print!("\nRoutes found, of {QUESTIONS} pairs");
-    for (size, subject) in SIZES.iter().zip(&mut subjects) {
+    print!("\nRoutes found, of a hundred pairs");
+    for (size, towns) in SIZES.iter().zip(&mut sizes) {
         let counts: Vec<String> = (1..=4)
-            .map(|tolerance| found(subject, Call::Route(tolerance)).to_string())
+            .map(|tolerance| found(towns, Call::Route(tolerance)).to_string())
             .collect();
         print!(
             "; {size} segments, tolerances 1 to 4: {}",
@@ -129,11 +146,11 @@ fn by_shape() {
     CALLS.iter().for_each(|call| print!(" {} |", call.title()));
     println!("\n|---|---|{}", "---|".repeat(CALLS.len()));
     for shape in Shape::ALL {
-        let town = gen::town(shape, SEED, 1_000);
+        let town = gen::town(shape, SEEDS.start, 1_000);
         if town.segments.len() < 100 {
             continue; // one node, or none with streets: nothing to time
         }
-        let mut subject = Subject::new(&town, SEED);
+        let mut towns = subjects(|seed| gen::town(shape, seed, 1_000));
         print!(
             "| {} | {}, {} |",
             shape.name(),
@@ -141,7 +158,7 @@ fn by_shape() {
             town.segments.len()
         );
         for call in CALLS {
-            print!(" {} |", time(&mut subject, call).cell());
+            print!(" {} |", time(&mut towns, call).cell());
         }
         println!();
     }
@@ -160,16 +177,17 @@ fn main() {
     println!("# Times\n");
     println!(
         "Microseconds of processor time for one call, archive / twin = **ratio**; medians of {SAMPLES} samples for each side, \
-         taken by turns, a sample at least {} ms of calls over {QUESTIONS} questions; the ratio is the median of those \
+         taken by turns, a sample at least {} ms of calls over {} towns with {QUESTIONS} questions each; the ratio is the median of those \
          of two samples taken one after the other. Release builds with link-time optimization, {}, {}. \
          Nothing is cleared before a call: scratch and buffer hold what the call before left. \
          Judge a segment and Judge a movement include the test of the kept bytes.\n",
         SAMPLE / 1e3,
+        SEEDS.end - SEEDS.start,
         env!("BENCH_RUSTC"),
         machine()
     );
     println!(
-        "A grid with mixed streets; growth is from {} segments to {}.\n",
+        "Grids with mixed streets; growth is from {} segments to {}.\n",
         SIZES[0],
         SIZES[SIZES.len() - 1]
     );

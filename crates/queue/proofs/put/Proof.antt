@@ -1,10 +1,10 @@
 -- The loop is the climb of ../Climb.antt: the invariant is its record, and each way out of the loop is one of its lemmas.
 -- Assumes nothing.
 use Prim.Native.Nat.{_<_}
-use native.Mathlib.Omega.{arith}
 use lib.ListN.{length-set}
-use borrow.Author.Needs.{needs}
 use Rattle.queue.proofs.Climb.{Climb, climb-start, climb-more, climb-stop, climb-end, climb-put}
+use native.Mathlib.Omega.{arith}
+use borrow.Author.Needs.{needs}
 use Rattle.queue.proofs.put.Statement.{statement}
 use Rattle.queue.proofs.put.Tie as tie
 
@@ -29,20 +29,14 @@ slice-write-tree c = search needs
 loop-holds : tie.Need-loop-holds Inv-loop μ-loop
 loop-holds c = climb-start (c .before .pre .0) (c .before .pre .1) (c .before .pre .2)
 
+sibling-requires : tie.Need-sibling-requires Inv-loop μ-loop
+sibling-requires c κs = search needs
+
 mul-greater : tie.Need-mul-greater Inv-loop μ-loop
 mul-greater c = search needs
 
-add-greater : tie.Need-add-greater Inv-loop μ-loop
-add-greater c = search needs
-
-sub-greater : tie.Need-sub-greater Inv-loop μ-loop
-sub-greater c = search needs
-
-mul-greater-2 : tie.Need-mul-greater-2 Inv-loop μ-loop
-mul-greater-2 c = search needs
-
 slice-read-greater : tie.Need-slice-read-greater Inv-loop μ-loop
-slice-read-greater c = search needs
+slice-read-greater c = omega (arith, c .before .sibling .ensures, c .before .before .before .loop .inv .to, c .before .before .before .loop .inv .long)
 
 greater-requires : tie.Need-greater-requires Inv-loop μ-loop
 greater-requires c κs = search needs
@@ -54,14 +48,16 @@ slice-read-if1 : tie.Need-slice-read-if1 Inv-loop μ-loop
 slice-read-if1 c = search needs
 
 same-length : tie.Need-same-length Inv-loop μ-loop
-same-length c = simp length-set at (c .before .before .before .before .before .loop .inv .same)
+same-length c = simp length-set at (c .before .before .before .before .before .before .loop .inv .same)
 
 returns : tie.Need-returns Inv-loop μ-loop
 returns c =
-    let s = c .before .before .before .before .before .before .before in
-    let k = c .before .before .before .before .before .loop in
-    let u : 1 < k .i = omega (arith, c .before .before .before .before .loop-test .taken) in
-    climb-put (s .pre .0) (s .pre .1) (s .pre .2) (k .inv) (climb-stop (k .inv) u (c .before .before .greater .ensures) (c .if1 .taken))
+    let after-loop = c .before .before .before .before .before .before in
+    let s = after-loop .before .before in
+    let k = after-loop .loop in
+    let u : 1 < k .i = omega (arith, c .before .before .before .before .before .loop-test .taken) in
+    climb-put (s .pre .0) (s .pre .1) (s .pre .2) (k .inv)
+    (climb-stop (k .inv) u (c .before .before .before .before .sibling .ensures) (c .before .before .greater .ensures) (c .if1 .taken))
 
 mul-tree-2 : tie.Need-mul-tree-2 Inv-loop μ-loop
 mul-tree-2 c = search needs
@@ -74,10 +70,7 @@ loop-less c = search needs
 
 loop-again : tie.Need-loop-again Inv-loop μ-loop
 loop-again c =
-    climb-more
-    (c .before .before .before .before .before .loop .inv)
-    (omega (arith, c .before .before .before .before .loop-test .taken))
-    (c .before .before .greater .ensures)
+    climb-more (c .before .before .before .before .before .before .loop .inv) (omega (arith, c .before .before .before .before .before .loop-test .taken)) (c .before .before .before .before .sibling .ensures) (c .before .before .greater .ensures)
 
 same-length-2 : tie.Need-same-length-2 Inv-loop μ-loop
 same-length-2 c = simp length-set at (c .before .loop .inv .same)
@@ -99,10 +92,8 @@ put-spec =
     mul-tree
     slice-write-tree
     loop-holds
+    sibling-requires
     mul-greater
-    add-greater
-    sub-greater
-    mul-greater-2
     slice-read-greater
     greater-requires
     mul-if1

@@ -11,8 +11,8 @@ use Rattle.search.proofs.settle.settle.Tie as tie
 cast-label : tie.Need-cast-label
 cast-label c = search needs
 
-put-requires : tie.Need-put-requires
-put-requires c κs = search needs
+remove-requires : tie.Need-remove-requires
+remove-requires c κs = search needs
 
 finish-of-requires : tie.Need-finish-of-requires
 finish-of-requires c κs =
@@ -32,7 +32,7 @@ relax-requires c κs =
     let after-put = after-finish-of .before .before .before in
     let after-before = after-put .before .before .before .before .before in
     let s = after-before .before in
-    (s .pre .0, s .pre .1, record { at-node = after-finish-of .finish-of .ensures; by-leg = after-arrival-leg .arrival-leg .ensures }, s .pre .3, settling-begins (fair (s .pre .0) .small) (s .pre .2) (after-put .put .ensures))
+    (s .pre .0, s .pre .1, record { at-node = after-finish-of .finish-of .ensures; by-leg = after-arrival-leg .arrival-leg .ensures }, s .pre .3, settling-begins (fair (s .pre .0) .small) (s .pre .2) (after-put .remove .ensures))
 
 least-requires : tie.Need-least-requires
 least-requires c κs = search needs
@@ -59,7 +59,7 @@ settle-spec =
     tie.close
     (tie.spec
     cast-label
-    put-requires
+    remove-requires
     finish-of-requires
     arrival-leg-requires
     relax-requires
