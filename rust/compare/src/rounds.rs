@@ -82,7 +82,7 @@ fn noise(comparer: &mut Comparer<'_>, rng: &mut Rng, subject: &Subject) -> Done 
     for _ in 0..6 {
         let mut text = subject.town.text();
         for _ in 0..rng.range(1, 3) {
-            change(rng, &mut text);
+            gen::change(rng, &mut text);
         }
         let room = rng.pick(&[subject.bytes.len(), 30_007, 67, 7]);
         comparer.compare(rng, None, &text, Question::Read { room })?;
@@ -102,28 +102,6 @@ fn noise(comparer: &mut Comparer<'_>, rng: &mut Rng, subject: &Subject) -> Done 
         comparer.compare(rng, None, &text, Question::Read { room })?;
     }
     Ok(())
-}
-
-/// Changes a text at one point.
-fn change(rng: &mut Rng, text: &mut Vec<u8>) {
-    if text.is_empty() {
-        return;
-    }
-    let at = rng.below(text.len());
-    match rng.below(6) {
-        0 => text[at] = rng.bits() as u8,
-        1 => text[at] = rng.pick(b"0123456789ABCDEF"),
-        2 => {
-            text.remove(at);
-        }
-        3 => text.insert(at, rng.pick(b"0A\nFg \r")),
-        4 => text.truncate(at),
-        _ => {
-            // Two digits of one line change places: the check often stays.
-            let other = (at / 61 * 61 + rng.below(61)).min(text.len() - 1);
-            text.swap(at, other);
-        }
-    }
 }
 
 /// A town with one byte of one frame changed and the frame sealed again: its

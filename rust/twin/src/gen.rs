@@ -6,7 +6,7 @@ mod damage;
 mod fields;
 mod plan;
 
-pub use damage::{damage, damage_kept, seal, Damage, Spot};
+pub use damage::{change, damage, damage_kept, seal, Damage, Spot};
 pub use plan::{mixed_grid, town};
 
 /// The splitmix generator.

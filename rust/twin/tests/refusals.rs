@@ -276,27 +276,7 @@ fn changed_texts() {
         let segments = rng.range(0, 8);
         let mut text = gen::town(shape, seed, segments).text();
         for _ in 0..rng.range(1, 3) {
-            let at = rng.below(text.len());
-            match rng.below(6) {
-                0 => text[at] = rng.bits() as u8,
-                1 => text[at] = rng.pick(b"0123456789ABCDEF"),
-                2 => {
-                    text.remove(at);
-                }
-                3 => text.insert(at, rng.pick(b"0A\nFg \r")),
-                4 => text.truncate(at),
-                _ => {
-                    // Two digits of one line changed so that the check stays.
-                    let other = (at / 61) * 61 + rng.below(61);
-                    if let Some(&digit) = text.get(other) {
-                        text[other] = text[at];
-                        text[at] = digit;
-                    }
-                }
-            }
-            if text.is_empty() {
-                break;
-            }
+            gen::change(&mut rng, &mut text);
         }
         let room = rng.pick(&[30_007, 30_007, 7, 67, 100, 0]);
         let _ = answer(&text, room);

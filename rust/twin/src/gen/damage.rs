@@ -504,3 +504,25 @@ fn share_corner(frames: &mut [Vec<u8>], one: (usize, usize), other: (usize, usiz
     frames[other.0][other.1..other.1 + 3].copy_from_slice(&corner);
     seal(&mut frames[other.0]);
 }
+
+/// Changes a text at one point, whatever that makes of it.
+pub fn change(rng: &mut Rng, text: &mut Vec<u8>) {
+    if text.is_empty() {
+        return;
+    }
+    let at = rng.below(text.len());
+    match rng.below(6) {
+        0 => text[at] = rng.bits() as u8,
+        1 => text[at] = rng.pick(b"0123456789ABCDEF"),
+        2 => {
+            text.remove(at);
+        }
+        3 => text.insert(at, rng.pick(b"0A\nFg \r")),
+        4 => text.truncate(at),
+        _ => {
+            // Two digits of one line change places: the check often stays.
+            let other = (at / 61 * 61 + rng.below(61)).min(text.len() - 1);
+            text.swap(at, other);
+        }
+    }
+}
