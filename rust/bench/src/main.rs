@@ -40,13 +40,13 @@ impl Times {
 }
 
 /// Microseconds for one call, as a mean over every town's questions so many
-/// times.
+/// times: one town's after the other's, as a town is asked much in a row.
 fn sample(towns: &mut [Subject], side: Side, call: Call, rounds: usize) -> f64 {
     let calls = rounds * towns.len() * QUESTIONS;
     let start = microseconds();
     for _ in 0..rounds {
-        for question in 0..QUESTIONS {
-            for town in &mut *towns {
+        for town in &mut *towns {
+            for question in 0..QUESTIONS {
                 town.ask(side, call, question);
             }
         }
