@@ -2,7 +2,7 @@
 -- place is the frame, and the byte is the head's edition.
 -- Assumes nothing.
 use Prim.Native.Nat.{ℕ, _+_, _*_, _%_, max}
-use mathlib.Core.Path.{_≡_, sym, _∙_, ap, ap₂}
+use mathlib.Core.Path.{_≡_, refl, sym, _∙_, ap, ap₂}
 use mathlib.Core.List.{List}
 use lib.ListN.{getD, take, drop}
 use Rattle.format.specs.Edition.{frameBytes, extra}
@@ -16,7 +16,7 @@ use Rattle.stress.specs.Segment.{gradeOf}
 use Rattle.stress.specs.Crossing.{crossingLevel}
 use Rattle.stress.specs.TurnLane.{turnLaneLevel}
 use Rattle.streets.specs.Runs.{segmentOf, feetOf}
-use Rattle.streets.specs.Bicycle.{segmentGrade, arrivalTurnLevel, arrivalCrossingLevel}
+use Rattle.streets.specs.Bicycle.{segmentGrade, runLevel, arrivalTurnLevel, arrivalCrossingLevel}
 use Rattle.streets.specs.Places.{SegmentAt}
 use Rattle.streets.proofs.EndLaws.{edition-is, frame-at, approach-is}
 
@@ -31,6 +31,11 @@ module _ (r : ℕ) {net : List ℕ} {place : ℕ} (A : SegmentAt net (segmentOf 
   pub feet-is : (x : ℕ) → x ≡ feet (getD net 1 0) (take (frameBytes (getD net 1 0)) (drop place net)) → x ≡ feetOf net r
   unfolding feetOf
   feet-is x e = e ∙ ap₂ feet (sym (edition-is net)) (frame-at A)
+
+  pub level-is : (form : Form) (level : ℕ) → form ≡ formOf (getD net 1 0) (take (frameBytes (getD net 1 0)) (drop place net))
+      → level ≡ gradeOf (getD net 1 0) form .level → level ≡ runLevel net r
+  unfolding runLevel
+  level-is form level f e = e ∙ ap (λ (g : Grade). g .level) (grade-is A form _ f refl)
 
   module _ (more : ℕ) (m : more ≡ extra (getD net 1 0)) where
     pub turn-is : (lane : TurnLane) (level : ℕ)
