@@ -1,6 +1,6 @@
--- A new key in a leaf makes at most one node wrong, the one above it. Each step of the climb stores there the winner of the two below, which is the
--- winner carried so far against its sibling; now at most the node above that one is wrong. The climb ends at the root, which has no node above it,
--- or as soon as the node above is right already. No step stores into a leaf, so the keys are those of the first store.
+-- A new key in a leaf makes at most one node wrong, the one above it. Each step of the climb stores there the winner of the two below; now at most
+-- the node above that one is wrong. The climb ends at the root, which has no node above it, or as soon as the node above is right already. No step
+-- stores into a leaf, so the keys are those of the first store.
 -- Assumes nothing.
 use mathlib.Core.Path.{_≡_, refl, sym, _∙_, ap}
 use mathlib.Core.List.{List}
@@ -65,21 +65,24 @@ module _ {before : List ℕ} {n r key : ℕ} (Q : Queue before n) (inside : r < 
         others = λ q l e. ap (λ (x : ℕ). top - x) (C .leaf (n + q) (omega arith) ∙ kept (n + q) (λ (h : n + q ≡ n + r). e (omega arith)));
       }
 
-module _ {start tree : List ℕ} {n i winner s next : ℕ} (C : Climb start tree n i winner) (up : 1 < i) (sibling : s ≡ i + 1 - 2 * (i % 2))
-    (won : next ≡ max winner (at tree s)) where
-  -- i and its sibling are the two children of i / 2
-  of-children : next ≡ max (at tree (2 * (i / 2))) (at tree (2 * (i / 2) + 1))
-  of-children =
-      ⊎-elim
-      (λ (e : i ≡ 2 * (i / 2)).
-      let o : s ≡ 2 * (i / 2) + 1 = omega arith in
-      omega (arith, C .here, ap (at tree) e, ap (at tree) o))
-      (λ (e : i ≡ 2 * (i / 2) → ⊥).
-      let odd : i ≡ 2 * (i / 2) + 1 = omega arith in
-      let o : s ≡ 2 * (i / 2) = omega arith in
-      omega (arith, C .here, ap (at tree) odd, ap (at tree) o))
-      (eq-or-ne i (2 * (i / 2)))
+-- i and its sibling are the two children of i / 2
+pub of-sibling : {start tree : List ℕ} {n i winner s next : ℕ} → Climb start tree n i winner → s ≡ i + 1 - 2 * (i % 2)
+    → next ≡ max winner (at tree s)
+    → next ≡ max (at tree (2 * (i / 2))) (at tree (2 * (i / 2) + 1))
+of-sibling {tree = tree} {i = i} {s = s} C sibling won =
+    ⊎-elim
+    (λ (e : i ≡ 2 * (i / 2)).
+    let o : s ≡ 2 * (i / 2) + 1 = omega arith in
+    omega (arith, C .here, ap (at tree) e, ap (at tree) o))
+    (λ (e : i ≡ 2 * (i / 2) → ⊥).
+    let odd : i ≡ 2 * (i / 2) + 1 = omega arith in
+    let o : s ≡ 2 * (i / 2) = omega arith in
+    omega (arith, C .here, ap (at tree) odd, ap (at tree) o))
+    (eq-or-ne i (2 * (i / 2)))
 
+-- one step up
+module _ {start tree : List ℕ} {n i winner next : ℕ} (C : Climb start tree n i winner) (up : 1 < i)
+    (won : next ≡ max (at tree (2 * (i / 2))) (at tree (2 * (i / 2) + 1))) where
   moved : at (set tree (i / 2) next) (i / 2) ≡ next
   moved = getD-set-same tree (i / 2) next 0 (omega (arith, C .to, C .long))
 
@@ -89,7 +92,6 @@ module _ {start tree : List ℕ} {n i winner s next : ℕ} (C : Climb start tree
   still-leaf : (q : ℕ) → n ≤ q → at (set tree (i / 2) next) q ≡ at tree q
   still-leaf q l = still q (λ (h : q ≡ i / 2). absurd (omega (arith, C .to)))
 
-  -- one step up
   pub climb-more : Climb start (set tree (i / 2) next) n (i / 2) next
   climb-more =
       record {
@@ -108,7 +110,7 @@ module _ {start tree : List ℕ} {n i winner s next : ℕ} (C : Climb start tree
               still (2 * (i / 2) + 1) (λ (k : 2 * (i / 2) + 1 ≡ i / 2). absurd (omega arith)),
               moved,
             )
-            of-children))
+            won))
             (λ (h : j ≡ i / 2 → ⊥).
             rw (
               still (2 * j) (λ (k : 2 * j ≡ i / 2). e (omega arith)),
@@ -121,28 +123,19 @@ module _ {start tree : List ℕ} {n i winner s next : ℕ} (C : Climb start tree
         here = sym moved;
       }
 
-  -- the node above is right already
-  pub climb-stop : at tree (i / 2) ≡ next → Queue tree n
-  climb-stop same =
-      record {
-        root = C .root;
-        long = C .long;
-        bounded = C .bounded;
-        node = λ j f t.
-            ⊎-elim
-            (λ (h : j ≡ i / 2). rw h (same ∙ of-children))
-            (λ (h : j ≡ i / 2 → ⊥). C .node j f t h)
-            (eq-or-ne j (i / 2));
-        none = λ z. absurd (omega (arith, C .to));
-      }
-
--- the root has no node above it
-pub climb-end : {start tree : List ℕ} {n i winner : ℕ} → Climb start tree n i winner → i ≤ 1 → Queue tree n
-climb-end {start} {tree} {n} {i} C l =
+-- the node above i, where there is one, is right already
+pub climb-right : {start tree : List ℕ} {n i winner : ℕ} → Climb start tree n i winner
+    → (1 < i → at tree (i / 2) ≡ max (at tree (2 * (i / 2))) (at tree (2 * (i / 2) + 1))) → Queue tree n
+climb-right {i = i} C right =
     record {
       root = C .root;
       long = C .long;
       bounded = C .bounded;
-      node = λ j f t. C .node j f t (λ (e : j ≡ i / 2). absurd (omega arith));
+      node = λ j f t.
+          ⊎-elim (λ (h : j ≡ i / 2). rw h (right (omega arith))) (λ (h : j ≡ i / 2 → ⊥). C .node j f t h) (eq-or-ne j (i / 2));
       none = λ z. absurd (omega (arith, C .to));
     }
+
+-- the root has no node above it
+pub climb-end : {start tree : List ℕ} {n i winner : ℕ} → Climb start tree n i winner → i ≤ 1 → Queue tree n
+climb-end C l = climb-right C (λ u. absurd (omega arith))

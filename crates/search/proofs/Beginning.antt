@@ -17,7 +17,7 @@ use Rattle.routes.proofs.Facts.{bool-cases, eq-or-ne, last-or-below}
 use Rattle.queue.specs.Queue.{top, at, keyOf, Queue, Empty}
 use Rattle.search.specs.Keys.{labelKey}
 use Rattle.search.specs.Labels.{Cleared, LabelWritten}
-use Rattle.search.specs.Begin.{Seed, idle, first, firstLabel, Begun}
+use Rattle.search.specs.Begin.{NoneEarlier, Seed, idle, first, firstLabel, Begun}
 use Rattle.search.specs.Queued.{noneSpent, Queued}
 use Rattle.search.specs.Search.{Fair, Settled}
 
@@ -63,6 +63,14 @@ started-none C E previous exits place =
     }
 
 module _ {w : Graph} {exits : List ℕ} {place i : ℕ} {best previous tree : List ℕ} (S : Started w exits place i best previous tree) where
+  -- a run has no key in the queue, or its first one
+  pub started-keys : {most : ℕ} → Fair (w .size) (w .feet) most → NoneEarlier (w .feet) tree (w .size)
+  started-keys F r l =
+      ⊎-elim
+      (λ (s : Blank best tree (w .size) r). omega (arith, s .1, F .small, F .short r l, F .room))
+      (λ (s : Sown w best previous tree r). omega (arith, s .queued))
+      (S .each r l)
+
   -- the entry gives no run its label
   skips : ((r : ℕ) → at exits (place + i) ≡ r + 1 → w .source r ≡ false) → Started w exits place (i + 1) best previous tree
   skips none =

@@ -116,6 +116,14 @@ settling-begins {n} {most} {m} {spent} {best} {previous} {tree} {tree′} small 
 -- a run gets its label by way of u
 module _ {n most u base r v : ℕ} {feet : ℕ → ℕ} {spent : ℕ → Bool} {best previous tree : List ℕ} (F : Fair n feet most)
     (S : Settling n most u base spent best previous tree) (inside : r < n) (e : v ≡ base + feet r) where
+  -- it had none, so it is not in the queue, and any key may be put in
+  pub settling-free : unlabelled ≤ at best r → labelKey v r ≤ keyOf tree n r
+  settling-free none =
+      ⊎-elim
+      (λ (s : keyOf tree n r < top). absurd (omega (arith, S .queued .only r inside s .1)))
+      (λ (s : top ≤ keyOf tree n r). omega (arith, F .small, F .short r inside, S .room))
+      (lt-or-ge (keyOf tree n r) top)
+
   other : (q : ℕ) → (q ≡ r → ⊥) → at (set best r v) q ≡ at best q
   other q s = getD-set-other best r q v 0 s
 

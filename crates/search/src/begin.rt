@@ -6,7 +6,7 @@ ghost use Rattle.format.specs.Corners.{cornersOf, Indexed};
 ghost use Rattle.queue.specs.Queue.{Queue, Empty};
 ghost use Rattle.streets.specs.Runs.{feetOf};
 ghost use Rattle.streets.specs.Bicycle.{bicycle};
-ghost use Rattle.search.specs.Begin.{Seed, Begun};
+ghost use Rattle.search.specs.Begin.{NoneEarlier, Seed, Begun};
 ghost use Rattle.search.specs.Queued.{noneSpent, Queued};
 ghost use Rattle.search.specs.Town.{Town, townGraph, usable};
 use crate::labels::NONE;
@@ -25,7 +25,7 @@ fn begin_at(
     previous: &mut [u32],
     tree: &mut [u64],
 )
-    requires { ⌜ Town (now net) n × (entry ≤ n) × (n ≤ length (now best)) × (n ≤ length (now previous)) × Queue (now tree) n ⌝ }
+    requires { ⌜ Town (now net) n × (entry ≤ n) × (n ≤ length (now best)) × (n ≤ length (now previous)) × Queue (now tree) n × NoneEarlier (feetOf (now net)) (now tree) n ⌝ }
     ensures { λ _. ⌜ Seed (usable (bicycle (now (net .entry))) tolerance) (feetOf (now (net .entry))) n entry (now (best .entry)) (now (previous .entry)) (now (tree .entry)) (now (best .exit)) (now (previous .exit)) (now (tree .exit)) ⌝ }
 {
     if entry == 0 {

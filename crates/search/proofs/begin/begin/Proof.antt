@@ -7,9 +7,9 @@ use lib.ListN.{length}
 use Rattle.routes.proofs.Walks.{true-source}
 use Rattle.streets.specs.Bicycle.{bicycle}
 use Rattle.search.specs.Town.{townGraph}
-use Rattle.search.proofs.Beginning.{Started, started-none, started-more, started-begun, started-queued}
+use Rattle.search.proofs.Beginning.{Started, started-none, started-keys, started-more, started-begun, started-queued}
 use Rattle.search.proofs.LeavingLaws.{node-small, entry-leaves, leaving-entry}
-use Rattle.search.proofs.TownLaws.{run-of, entry-few}
+use Rattle.search.proofs.TownLaws.{run-of, fair, entry-few}
 use Rattle.search.proofs.TestLaws.{source-usable}
 use native.Mathlib.Omega.{arith}
 use borrow.Author.Needs.{needs}
@@ -62,8 +62,14 @@ begin-at-requires c κs =
     let after-clear-labels = after-loop .before .before .before in
     let after-before = after-clear-labels .before .before .before .before .before in
     let s = after-before .before in
-    let i = after-loop .loop .inv in
-    (s .pre .0, entry-few (s .pre .0) (entry-leaves (s .args .net .now) (s .pre .0 .network) (s .pre .1) (s .pre .2) (after-loop-test .loop-test .taken)), omega (arith, s .pre .3, i .2, after-clear-labels .clear-labels .kept .1 .0), omega (arith, s .pre .4, i .3), i .1 .queue)
+    let i = after-loop .loop .inv in (
+      s .pre .0,
+      entry-few (s .pre .0) (entry-leaves (s .args .net .now) (s .pre .0 .network) (s .pre .1) (s .pre .2) (after-loop-test .loop-test .taken)),
+      omega (arith, s .pre .3, i .2, after-clear-labels .clear-labels .kept .1 .0),
+      omega (arith, s .pre .4, i .3),
+      i .1 .queue,
+      started-keys (i .1) (fair (s .pre .0)),
+    )
 
 add-leg : tie.Need-add-leg Inv-loop μ-loop
 add-leg c = search needs

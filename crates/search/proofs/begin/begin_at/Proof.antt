@@ -1,5 +1,5 @@
 -- Without a run behind the entry, or with one that is not usable, nothing changes. A usable run gets its own feet for a label: at most 52,800, so they
--- fit 32 bits and lie below the number that stands for no label.
+-- fit 32 bits. Their key is not above the one in the queue, as the contract asks.
 -- Assumes nothing.
 use mathlib.Core.Path.{_≡_, refl, sym, _∙_}
 use Prim.Native.Nat.{_-_}
@@ -35,9 +35,14 @@ write-label-requires : tie.Need-write-label-requires
 write-label-requires c κs =
     let after-feet-of = c .before .before .before in
     let after-before = after-feet-of .before .before .before .before .before .before .before in
-    let s = after-before .before in
-    let F = fair (s .pre .0) in
-    (F .small, omega arith, omega (arith, after-feet-of .feet-of .ensures, F .short (s .args .entry - 1) (omega arith), F .room), s .pre .2, s .pre .3, s .pre .4)
+    let s = after-before .before in (
+      fair (s .pre .0) .small,
+      omega arith,
+      s .pre .2,
+      s .pre .3,
+      s .pre .4,
+      omega (arith, after-feet-of .feet-of .ensures, s .pre .5 (s .args .entry - 1) (omega arith)),
+    )
 
 same-length : tie.Need-same-length
 same-length c = search needs

@@ -1,12 +1,12 @@
 -- No run is behind the entry; or it has a label already; or it is not usable, so that no edge leads to it. Else it gets the label of the run reached with
--- its own feet added, for which there is room. It is queued above the key of the run that is being settled, or, where nothing is left to find where it
--- leads, it is spent and stays out.
+-- its own feet added, for which there is room. It was not queued, having no label. It is queued above the key of the run that is being settled, or,
+-- where nothing is left to find where it leads, it is spent and stays out.
 -- Assumes nothing.
 use mathlib.Core.Path.{refl, sym, _∙_, ap}
 use Prim.Native.Nat.{ℕ, _+_, _-_}
 use lib.ListN.{set}
 use Rattle.search.specs.Relax.{kept, barred, labelled, free, leads}
-use Rattle.search.proofs.Queueing.{settling-more, settling-without}
+use Rattle.search.proofs.Queueing.{settling-free, settling-more, settling-without}
 use Rattle.search.proofs.TownLaws.{fair, few-runs, run-of, behind}
 use Rattle.search.proofs.LeftLaws.{spent-at}
 use native.Mathlib.Omega.{arith}
@@ -122,11 +122,20 @@ write-label-requires : tie.Need-write-label-requires
 write-label-requires c κs =
     let after-before = c .before .before .before .before .before .before .before in
     let after-feet-of = after-before .before in
-    let after-if1 = after-feet-of .before .before .before .before .before in
+    let after-if2 = after-feet-of .before .before .before in
+    let after-if1 = after-if2 .before .before in
     let after-before = after-if1 .before .before .before .before in
     let s = after-before .before in
     let B = behind (s .pre .0) (s .pre .1) (after-if1 .if1 .left) in
-    (fair (s .pre .0) .small, B .inside, omega (arith, after-feet-of .feet-of .ensures, B .feet, s .pre .2 .room), s .pre .2 .long, s .pre .2 .long′, s .pre .2 .queued .queue)
+    let F = fair (s .pre .0) in
+    let v = ap (λ (x : ℕ). s .args .here .label + x) (after-feet-of .feet-of .ensures) in (
+      F .small,
+      B .inside,
+      s .pre .2 .long,
+      s .pre .2 .long′,
+      s .pre .2 .queued .queue,
+      settling-free F (s .pre .2) (B .inside) v (after-if2 .if2 .left),
+    )
 
 same-length-3 : tie.Need-same-length-3
 same-length-3 c = search needs
