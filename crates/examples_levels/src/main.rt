@@ -76,7 +76,7 @@ fn turn_lanes(feet: u16, speed: u8) {
     io::write_all(OUT, b"\n");
 }
 
-fn main() {
+fn mixed_traffic() {
     segment(
         b"mixed, 2 lanes, centreline, 31 mph:",
         Form::Mixed {
@@ -101,6 +101,9 @@ fn main() {
             marks: 0,
         },
     );
+}
+
+fn beside_parking() {
     segment(
         b"beside parking, 1 lane, 25 mph, reach 28:",
         Form::BesideParking {
@@ -128,6 +131,9 @@ fn main() {
             marks: 8,
         },
     );
+}
+
+fn bike_lanes_and_paths() {
     segment(
         b"bike lane, 1 lane, 36 mph, reach 12, median:",
         Form::BikeLane {
@@ -147,6 +153,12 @@ fn main() {
         },
     );
     segment(b"separate path:", Form::SeparatePath);
+}
+
+fn main() {
+    mixed_traffic();
+    beside_parking();
+    bike_lanes_and_paths();
     table(2);
     table(3);
     table(4);

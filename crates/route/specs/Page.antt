@@ -1,6 +1,6 @@
 -- The page that an answer is put on, and a number's text there.
 -- Assumes nothing.
-use Prim.Native.Nat.{ℕ, _≤_}
+use Prim.Native.Nat.{ℕ}
 use mathlib.Core.List.{List}
 use Rattle.io.specs.Digits.{digits, Fewest}
 use Rattle.splicereel.specs.Output.{Wrote}

@@ -2,7 +2,7 @@
 ghost use mathlib.Core.Path.{_≡_};
 ghost use mathlib.Core.Bool.{true};
 ghost use Prim.Native.Nat.{_+_, _*_, _/_, _≤_, _<_};
-ghost use lib.ListN.{length, getD};
+ghost use lib.ListN.{length};
 ghost use Rattle.format.specs.Network.{isNetwork};
 ghost use Rattle.routes.specs.Routes.{Movement, Route};
 ghost use Rattle.streets.specs.Runs.{RunOf};

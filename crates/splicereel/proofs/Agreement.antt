@@ -8,7 +8,7 @@ use mathlib.Core.Path.{_≡_, refl, sym, _∙_}
 use mathlib.Core.List.{List}
 use mathlib.Core.Logic.{_↔_}
 use Rattle.routes.specs.Streets.{Streets}
-use Rattle.routes.specs.Routes.{lengthOf, Within, Shortest, NoRoute, LeastTolerance}
+use Rattle.routes.specs.Routes.{lengthOf, Shortest, NoRoute}
 use Rattle.routes.proofs.Tolerance.{none-falls, shortest-falls, shortest-same-length}
 use Rattle.streets.specs.Bicycle.{bicycle}
 use Rattle.search.specs.Trace.{Written}

@@ -1,9 +1,9 @@
 -- The answers of Route and Least stress, each from the tests that led to it: the tests of the definition are gone through in its order, and what the
 -- search answers is what the promise asks.
 -- Assumes nothing.
-use Prim.Native.Nat.{ℕ, _+_, _*_, _-_, _≤_, _<_}
+use Prim.Native.Nat.{ℕ, _+_, _-_, _≤_, _<_}
 use native.Mathlib.Omega.{arith}
-use mathlib.Core.Path.{_≡_, refl, sym, _∙_, ap, subst}
+use mathlib.Core.Path.{_≡_, refl, sym, _∙_, subst}
 use mathlib.Core.Bool.{Bool, true, false, _&&_}
 use mathlib.Core.List.{List}
 use mathlib.Core.Logic.{_⊎_, inl, inr}
@@ -12,8 +12,7 @@ use lib.ListN.{length}
 use borrow.Author.Tests.{le-leb, lt-leb, leb-true, ltb-true}
 use Rattle.routes.proofs.Facts.{and-true, lt-or-ge}
 use Rattle.routes.specs.Streets.{Streets}
-use Rattle.routes.specs.Routes.{NoRoute, LeastTolerance}
-use Rattle.format.specs.Digits.{within}
+use Rattle.routes.specs.Routes.{NoRoute}
 use Rattle.format.specs.Network.{nodesOf, isNetwork}
 use Rattle.streets.specs.Runs.{runsOf}
 use Rattle.streets.specs.Bicycle.{bicycle}

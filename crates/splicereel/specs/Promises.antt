@@ -1,6 +1,6 @@
 -- What Route and Least stress promise, for every network, every two nodes, every tolerance, and any lent slices whatever they hold.
 -- Assumes nothing.
-use Prim.Native.Nat.{ℕ, _≤_, _<_}
+use Prim.Native.Nat.{ℕ, _≤_}
 use mathlib.Core.Path.{_≡_}
 use mathlib.Core.List.{List}
 use lib.ListN.{length}

@@ -71,19 +71,9 @@ fn rising(
     requires { ⌜ (isNetwork (now net) ≡ true) × Indexed (cornersOf (now net)) (now index) × (from < nodesOf (now net)) × (to < nodesOf (now net)) × (runsOf (now net) ≤ length (now best)) × (runsOf (now net) ≤ length (now previous)) × (place + runsOf (now net) ≤ length (now buffer)) ⌝ }
     ensures { λ r. ⌜ Rising (bicycle (now (net .entry))) from to place (now (buffer .entry)) (now (buffer .exit)) r ⌝ }
 {
-    let mut tolerance = 1;
-    while tolerance < 5 {
-        let finding = find(
-            net,
-            index,
-            from,
-            to,
-            tolerance,
-            best,
-            previous,
-            buffer,
-            place,
-        );
+    let mut t = 1;
+    while t < 5 {
+        let finding = find(net, index, from, to, t, best, previous, buffer, place);
         if let Finding::Found {
             count,
             length,
@@ -93,10 +83,10 @@ fn rising(
                 count,
                 length,
                 level,
-                tolerance,
+                tolerance: t,
             };
         }
-        tolerance += 1;
+        t += 1;
     }
     LeastAnswer::Nothing
 }

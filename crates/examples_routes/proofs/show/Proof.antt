@@ -1,7 +1,6 @@
 -- `examples_routes::show` is safe and ends.
 -- Assumes nothing.
 use Prim.Native.Nat.{_-_}
-use lib.ListN.{length}
 use borrow.Author.Needs.{needs}
 use Rattle.examples_routes.proofs.show.Statement.{statement}
 use Rattle.examples_routes.proofs.show.Tie as tie
