@@ -1,19 +1,21 @@
 -- What is left to find at a node. Labels are never taken away, so what is said of a node stays true. A run from which every movement is within the
 -- tolerance leads on by an edge to every usable run of the node, but for the one by the leg of its own arrival: after it only that leg may be left, and
--- after it where one other leg was left, nothing. Where nothing is left every edge from an arriving run leads to a labelled run: the run is spent. At the
--- goal's node nothing is ever noted, since a run that arrives there is not settled: no goal is spent.
+-- after it where one other leg was left, nothing. Where nothing is left every edge from an arriving run leads to a labelled run: the run is spent. So is
+-- the run back where nothing is left at the node that the first run came from: labelling it too leaves nothing here. At the start nothing is left from
+-- the first, since its usable runs are the sources. At the goal's node, another one, nothing is ever noted, since a run that arrives there is not
+-- settled: no goal is spent.
 -- Assumes nothing.
 use mathlib.Core.Path.{_≡_, refl, sym, _∙_, ap}
-use mathlib.Core.Bool.{true, false}
+use mathlib.Core.Bool.{Bool, true, false, true≢false, _&&_, _||_}
 use mathlib.Core.List.{List}
-use mathlib.Core.Logic.{⊎-elim}
+use mathlib.Core.Logic.{_⊎_, inl, inr, ⊎-elim}
 use Prim.Native.Nat.{ℕ, _+_, _*_, _-_, _%_, _≤_, _<_}
 use native.Mathlib.Omega.{arith}
 use lib.ListN.{set, length-set}
 use lib.Seq.{getD-set-same, getD-set-other}
 use borrow.Author.Tests.{ne-eqb, eqb-false, le-leb, leb-true}
 use Rattle.routes.specs.Labels.{unlabelled, edgeOf}
-use Rattle.routes.proofs.Facts.{lt-or-ge, eq-or-ne}
+use Rattle.routes.proofs.Facts.{and-true, true-and, or-true, or-right, lt-or-ge, eq-or-ne}
 use Rattle.format.specs.Corners.{cornersOf, Indexed}
 use Rattle.queue.specs.Queue.{at}
 use Rattle.streets.specs.Runs.{start, finish, leavingLeg, arrivalLeg, feetOf}
@@ -22,13 +24,16 @@ use Rattle.streets.specs.Bicycle.{bicycle}
 use Rattle.streets.proofs.ExitLaws.{exit-below}
 use Rattle.streets.proofs.MovementLaws.{exit-is}
 use Rattle.search.specs.Leaving.{Entry}
-use Rattle.search.specs.Relax.{Relaxed}
-use Rattle.search.specs.Search.{arrivesAt, Spent}
+use Rattle.search.specs.Relax.{Offer, Relaxed}
+use Rattle.search.specs.Begin.{firstLabel, Begun}
+use Rattle.search.specs.Search.{arrivesAt, Spent, Settling}
 use Rattle.search.specs.Town.{mostRunFeet, Town, townGraph, usable}
-use Rattle.search.specs.Left.{nothing, Unknown, Left, spentOf, Noted, Arrives, EveryExit, RightOnly, Way}
-use Rattle.search.proofs.LeavingLaws.{node-small, start-below, leaving-below, entry-leaves, leaving-at}
-use Rattle.search.proofs.TownLaws.{run-of, fair}
-use Rattle.search.proofs.TestLaws.{edge-onward, right-by, every-edge, way-every, way-right}
+use Rattle.search.specs.Left.{nothing, Unknown, Left, spentOf, Noted, Arrives, EveryExit, RightOnly, RunBehind, toUsable, Way, turnsBack, leadsOf, Spread}
+use Rattle.search.proofs.Queueing.{settling-spent}
+use Rattle.search.proofs.Exits.{offer-as, relaxed-one, relaxed-as, relaxed-both}
+use Rattle.search.proofs.LeavingLaws.{node-small, start-below, leaving-below, entry-leaves, leaving-at, back-ends}
+use Rattle.search.proofs.TownLaws.{run-of, fair, run-behind}
+use Rattle.search.proofs.TestLaws.{source-usable, edge-onward, turns-back, back-usable, right-by, every-edge, way-every, way-right}
 
 -- a run that arrives where nothing is left
 pub spent-at : (net left : List ℕ) (r : ℕ) {node : ℕ} → node ≡ finish net r → nothing ≤ at left node → spentOf net left r ≡ true
@@ -41,12 +46,71 @@ pub noted-elsewhere : {net : List ℕ} {t n u : ℕ} {best left left′ : List �
 unfolding arrivesAt
 noted-elsewhere {net} {u = u} N to away z = N .elsewhere to (λ (e : to ≡ finish net u). eqb-false (finish net u) to away (sym e)) ∙ z
 
+-- and at first, where nothing is noted but at the start, of any other node
+pub left-apart : (from : ℕ) {to : ℕ} {left : List ℕ} → Unknown left → (from ≡ to → ⊥) → to < 1000 → at (set left from nothing) to ≡ 0
+left-apart from {to} {left} U apart few = getD-set-other left from to nothing 0 (λ (e : to ≡ from). apart (sym e)) ∙ U .none to few
+
+-- ---- edges and ways back
+module _ (net : List ℕ) (t : ℕ) (back : Bool) (u r : ℕ) where
+  leads-edge : edgeOf (bicycle net) t u r ≡ true → leadsOf net t back u r ≡ true
+  leads-edge e = rw e
+
+  leads-back : back ≡ true → turnsBack net t u r ≡ true → leadsOf net t back u r ≡ true
+  leads-back b e = or-right (edgeOf (bicycle net) t u r) (true-and back (turnsBack net t u r) b e)
+
+-- no way back is relaxed
+pub spread-edges : {net : List ℕ} {t n u base : ℕ} {best previous left best′ previous′ tree′ left′ : List ℕ}
+    → Relaxed (edgeOf (bicycle net) t) (feetOf net) n u base best previous best′ previous′
+    → Settling n mostRunFeet u base (spentOf net left′) best′ previous′ tree′ → Noted net t n u best′ left left′
+    → Spread net t n u base best previous left best′ previous′ tree′ left′
+spread-edges {net} {t} {u = u} R S N =
+    record {
+      back = false;
+      only = λ r l e. absurd (true≢false (sym e));
+      relaxed = relaxed-as (λ r l. sym (or-false (edgeOf (bicycle net) t u r))) R;
+      settling = S;
+      noted = N;
+    }
+  where
+    or-false : (b : Bool) → b || false ≡ b
+    or-false true = refl
+    or-false false = refl
+
+-- what is relaxed is every edge, and beside them only ways to spent runs
+module _ {net : List ℕ} {t n u base : ℕ} {best previous left best′ previous′ tree′ left′ : List ℕ}
+    (S : Spread net t n u base best previous left best′ previous′ tree′ left′) where
+  pub spread-all : (r : ℕ) → r < n → edgeOf (bicycle net) t u r ≡ true → leadsOf net t (S .back) u r ≡ true
+  spread-all r l e = leads-edge net t (S .back) u r e
+
+  pub spread-only : (r : ℕ) → r < n → leadsOf net t (S .back) u r ≡ true → (edgeOf (bicycle net) t u r ≡ true) ⊎ (spentOf net left′ r ≡ true)
+  spread-only r l e =
+      ⊎-elim
+      (λ (s : edgeOf (bicycle net) t u r ≡ true). inl s)
+      (λ (s : S .back && turnsBack net t u r ≡ true).
+      let h = and-true (S .back) (turnsBack net t u r) s in
+      inr (S .only r l (h .0) (h .1)))
+      (or-true (edgeOf (bicycle net) t u r) (S .back && turnsBack net t u r) e)
+
 module _ {net : List ℕ} {n : ℕ} (T : Town net n) where
-  pub left-unknown : {t : ℕ} {best left : List ℕ} → Unknown left → Left net t n best left
-  left-unknown U =
+  -- at first every usable run that leaves the start has its label, and nothing is left there
+  pub left-begun : (t from : ℕ) {best previous left : List ℕ} → Unknown left → Begun (townGraph net n t from) best previous
+      → Left net t n best (set left from nothing)
+  unfolding firstLabel
+  left-begun t from {best} {previous} {left} U B =
       record {
-        long = U .long;
-        labelled = λ r l s some other. absurd (some (U .none (start net r) (node-small net (T .network) (start-below (run-of T l)))));
+        long = simp length-set (U .long);
+        labelled = λ r l s said other.
+            ⊎-elim
+            (λ (e : start net r ≡ from).
+            let source = sym (source-usable (record { inside = run-of T l .inside; from = e; by = refl }) t) ∙ s in
+            let label : at best r ≡ feetOf net r = rw source at (B .first r l) in
+            omega (arith, fair T .short r l))
+            (λ (e : start net r ≡ from → ⊥).
+            absurd
+            (said
+            (getD-set-other left from (start net r) nothing 0 e
+            ∙ U .none (start net r) (node-small net (T .network) (start-below (run-of T l))))))
+            (eq-or-ne (start net r) from);
       }
 
   spent-closed : {t : ℕ} {best left : List ℕ} → Left net t n best left → (p r : ℕ) → nothing ≤ at left (finish net p) → r < n
@@ -75,77 +139,8 @@ module _ {net : List ℕ} {n : ℕ} (T : Town net n) where
   nothing-left {t} {u} {left = left} A L h r l none e =
       omega (arith, spent-closed L u r (omega (arith, ap (at left) (A .at-node .is))) l e)
 
-  -- ---- a round at the run u
-  module _ {t u base node leg : ℕ} {best previous best′ previous′ left : List ℕ} (A : Arrives net u node leg) (L : Left net t n best left)
-      (R : Relaxed (edgeOf (bicycle net) t) (feetOf net) n u base best previous best′ previous′) (room : base + mostRunFeet < unlabelled) where
-    -- a labelled run stays labelled, and one to which an edge leads is labelled
-    stays : (r : ℕ) → r < n → at best r < unlabelled → at best′ r < unlabelled
-    stays r l h = omega (arith, R .kept r l h .0)
-
-    reached : (r : ℕ) → r < n → edgeOf (bicycle net) t u r ≡ true → at best′ r < unlabelled
-    reached r l e =
-        ⊎-elim
-        (λ (h : at best r < unlabelled). stays r l h)
-        (λ (h : unlabelled ≤ at best r). omega (arith, R .labelled r l h e .0, fair T .short r l))
-        (lt-or-ge (at best r) unlabelled)
-
-    -- nothing new is said
-    pub noted-same : Noted net t n u best′ left left
-    noted-same =
-        record {
-          right = record { long = L .long; labelled = λ r l s some other. stays r l (L .labelled r l s some other) };
-          elsewhere = λ v e. refl;
-        }
-
-    -- something is said of the node
-    noted-set : (x : ℕ)
-        → ((r : ℕ) → r < n → usable (bicycle net) t r ≡ true → start net r ≡ node → (leavingLeg net r + 1 ≡ x → ⊥) → at best′ r < unlabelled)
-        → Noted net t n u best′ left (set left node x)
-    noted-set x H =
-        record {
-          right =
-              record {
-                long = simp length-set (L .long);
-                labelled = λ r l s some other.
-                    ⊎-elim
-                    (λ (e : start net r ≡ node).
-                    let here : at (set left node x) (start net r) ≡ x = rw e (getD-set-same left node x 0 (omega (arith, A .at-node .few, L .long))) in
-                    H r l s e (λ (k : leavingLeg net r + 1 ≡ x). other (here ∙ sym k)))
-                    (λ (e : start net r ≡ node → ⊥).
-                    let same = getD-set-other left node (start net r) x 0 e in
-                    stays r l
-                    (L .labelled r l s (λ (k : at left (start net r) ≡ 0). some (same ∙ k))
-                    (λ (k : at left (start net r) ≡ leavingLeg net r + 1). other (same ∙ k))))
-                    (eq-or-ne (start net r) node);
-              };
-          elsewhere = λ v e. getD-set-other left node v x 0 (λ (k : v ≡ node). e (k ∙ A .at-node .is));
-        }
-
-    module _ (every : EveryExit net t u) where
-      -- every usable run of the node by another leg has its label
-      others-labelled : (r : ℕ) → r < n → usable (bicycle net) t r ≡ true → start net r ≡ node → (leavingLeg net r ≡ leg → ⊥) → at best′ r < unlabelled
-      others-labelled r l s from apart =
-          reached r l
-          (sym (every-edge every r (from ∙ A .at-node .is) (λ (k : leavingLeg net r ≡ arrivalLeg net u). apart (omega (arith, A .by-leg .is)))) ∙ s)
-
-      pub noted-others : Noted net t n u best′ left (set left node (1 + leg))
-      noted-others = noted-set (1 + leg) (λ r l s from k. others-labelled r l s from (λ (j : leavingLeg net r ≡ leg). k (omega arith)))
-
-      pub noted-last : (at left node ≡ 0 → ⊥) → (at left node ≡ leg + 1 → ⊥) → Noted net t n u best′ left (set left node nothing)
-      noted-last some apart =
-          noted-set nothing
-          (λ r l s from k.
-          ⊎-elim
-          (λ (j : leavingLeg net r ≡ leg).
-          let here : at left (start net r) ≡ at left node = ap (at left) from in
-          stays r l
-          (L .labelled r l s (λ (z : at left (start net r) ≡ 0). some (sym here ∙ z))
-          (λ (z : at left (start net r) ≡ leavingLeg net r + 1). apart (omega arith))))
-          (λ (j : leavingLeg net r ≡ leg → ⊥). others-labelled r l s from j)
-          (eq-or-ne (leavingLeg net r) leg))
-
   -- more is said of a node where something was left: no run is spent less
-  pub spent-grows : (left : List ℕ) (node x : ℕ) → at left node < nothing → (r : ℕ) → r < n → spentOf net left r ≡ true → spentOf net (set left node x) r ≡ true
+  spent-grows : (left : List ℕ) (node x : ℕ) → at left node < nothing → (r : ℕ) → r < n → spentOf net left r ≡ true → spentOf net (set left node x) r ≡ true
   unfolding spentOf
   spent-grows left node x some r l s =
       let h = leb-true nothing (at left (finish net r)) s in
@@ -153,6 +148,92 @@ module _ {net : List ℕ} {n : ℕ} (T : Town net n) where
       (λ (e : finish net r ≡ node). absurd (omega (arith, h, ap (at left) e)))
       (λ (e : finish net r ≡ node → ⊥). le-leb nothing (at (set left node x) (finish net r)) (omega (arith, h, getD-set-other left node (finish net r) x 0 e)))
       (eq-or-ne (finish net r) node)
+
+  -- ---- a round at the run u
+  module _ {t u base node leg : ℕ} {leads : ℕ → ℕ → Bool} {best previous best′ previous′ left : List ℕ} (A : Arrives net u node leg)
+      (L : Left net t n best left) (R : Relaxed leads (feetOf net) n u base best previous best′ previous′) (room : base + mostRunFeet < unlabelled) where
+    -- a labelled run stays labelled
+    stays : (r : ℕ) → r < n → at best r < unlabelled → at best′ r < unlabelled
+    stays r l h = omega (arith, R .kept r l h .0)
+
+    -- nothing new is said
+    pub noted-same : Noted net t n u best′ left left
+    noted-same =
+        record {
+          right = record { long = L .long; labelled = λ r l s some other. stays r l (L .labelled r l s some other) };
+          elsewhere = λ v e. refl;
+          grows = λ r l s. s;
+        }
+
+    -- something is said of the node, where something was left
+    noted-set : (x : ℕ) → at left node < nothing
+        → ((r : ℕ) → r < n → usable (bicycle net) t r ≡ true → start net r ≡ node → (leavingLeg net r + 1 ≡ x → ⊥) → at best′ r < unlabelled)
+        → Noted net t n u best′ left (set left node x)
+    noted-set x some H =
+        record {
+          right =
+              record {
+                long = simp length-set (L .long);
+                labelled = λ r l s said other.
+                    ⊎-elim
+                    (λ (e : start net r ≡ node).
+                    let here : at (set left node x) (start net r) ≡ x = rw e (getD-set-same left node x 0 (omega (arith, A .at-node .few, L .long))) in
+                    H r l s e (λ (k : leavingLeg net r + 1 ≡ x). other (here ∙ sym k)))
+                    (λ (e : start net r ≡ node → ⊥).
+                    let same = getD-set-other left node (start net r) x 0 e in
+                    stays r l
+                    (L .labelled r l s (λ (k : at left (start net r) ≡ 0). said (same ∙ k))
+                    (λ (k : at left (start net r) ≡ leavingLeg net r + 1). other (same ∙ k))))
+                    (eq-or-ne (start net r) node);
+              };
+          elsewhere = λ v e. getD-set-other left node v x 0 (λ (k : v ≡ node). e (k ∙ A .at-node .is));
+          grows = spent-grows left node x some;
+        }
+
+    module _ (every : EveryExit net t u) (some : at left node < nothing) (all : (r : ℕ) → edgeOf (bicycle net) t u r ≡ true → leads u r ≡ true) where
+      reached : (r : ℕ) → r < n → leads u r ≡ true → at best′ r < unlabelled
+      reached r l e =
+          ⊎-elim
+          (λ (h : at best r < unlabelled). stays r l h)
+          (λ (h : unlabelled ≤ at best r). omega (arith, R .labelled r l h e .0, fair T .short r l))
+          (lt-or-ge (at best r) unlabelled)
+
+      -- every usable run of the node by another leg has its label
+      others-labelled : (r : ℕ) → r < n → usable (bicycle net) t r ≡ true → start net r ≡ node → (leavingLeg net r ≡ leg → ⊥) → at best′ r < unlabelled
+      others-labelled r l s from apart =
+          reached r l
+          (all r
+          (sym (every-edge every r (from ∙ A .at-node .is) (λ (k : leavingLeg net r ≡ arrivalLeg net u). apart (omega (arith, A .by-leg .is)))) ∙ s))
+
+      -- so where the one by the leg of arrival has its own, nothing is left
+      noted-nothing : ((r : ℕ) → r < n → usable (bicycle net) t r ≡ true → start net r ≡ node → leavingLeg net r ≡ leg → at best′ r < unlabelled)
+          → Noted net t n u best′ left (set left node nothing)
+      noted-nothing own =
+          noted-set nothing some
+          (λ r l s from k.
+          ⊎-elim
+          (λ (j : leavingLeg net r ≡ leg). own r l s from j)
+          (λ (j : leavingLeg net r ≡ leg → ⊥). others-labelled r l s from j)
+          (eq-or-ne (leavingLeg net r) leg))
+
+      pub noted-others : Noted net t n u best′ left (set left node (1 + leg))
+      noted-others = noted-set (1 + leg) some (λ r l s from k. others-labelled r l s from (λ (j : leavingLeg net r ≡ leg). k (omega arith)))
+
+      -- it had its label before
+      pub noted-last : (at left node ≡ 0 → ⊥) → (at left node ≡ leg + 1 → ⊥) → Noted net t n u best′ left (set left node nothing)
+      noted-last said apart =
+          noted-nothing
+          (λ r l s from j.
+          let here : at left (start net r) ≡ at left node = ap (at left) from in
+          stays r l
+          (L .labelled r l s (λ (z : at left (start net r) ≡ 0). said (sym here ∙ z))
+          (λ (z : at left (start net r) ≡ leavingLeg net r + 1). apart (omega arith))))
+
+      -- it is labelled as the way back
+      noted-back : ((r : ℕ) → turnsBack net t u r ≡ true → leads u r ≡ true) → Noted net t n u best′ left (set left node nothing)
+      noted-back too =
+          noted-nothing
+          (λ r l s from j. reached r l (too r (sym (back-usable net t u r (from ∙ A .at-node .is) (j ∙ A .by-leg .is)) ∙ s)))
 
   -- ---- at which entries the edges from u lead on
   module _ {index : List ℕ} {u node leg : ℕ} (I : Indexed (cornersOf net) index) (A : Arrives net u node leg) where
@@ -191,6 +272,48 @@ module _ {net : List ℕ} {n : ℕ} (T : Town net n) where
 
     pub others-way : {t k : ℕ} → EveryExit net t u → k < 7 → Way net t n u (at index (node * 8 + (leg + 1 + k) % 8))
     others-way {k = k} every l = other-way every (omega arith) (λ (s : (leg + 1 + k) % 8 ≡ leg). omega (arith, A .by-leg .below))
+
+    -- the way back stands at the entry of the leg of arrival
+    pub back-behind : RunBehind n (at index (node * 8 + leg))
+    back-behind = run-behind T (entry-at (A .by-leg .below))
+
+    back-at : (t r : ℕ) → r < n → turnsBack net t u r ≡ true → at index (node * 8 + leg) ≡ r + 1
+    back-at t r l e =
+        let B = turns-back net t u r e in
+        leaving-at net (T .network) I (run-of T l) (B .from ∙ sym (A .at-node .is)) (B .by ∙ sym (A .by-leg .is))
+
+    back-offer : (t r : ℕ) → at index (node * 8 + leg) ≡ r + 1 → usable (bicycle net) t r ≡ turnsBack net t u r
+    back-offer t r e =
+        let E = entry-at (A .by-leg .below) .leaving r e in
+        back-usable net t u r (E .from ∙ A .at-node .is) (E .by ∙ A .by-leg .is)
+
+    -- it ends where u began: where nothing is left there, it is spent
+    back-spent : (t : ℕ) (left : List ℕ) {came : ℕ} → u < n → came ≡ start net u → nothing ≤ at left came → (r : ℕ) → r < n → turnsBack net t u r ≡ true
+        → spentOf net left r ≡ true
+    back-spent t left l is none r k e =
+        let B = turns-back net t u r e in
+        spent-at net left r (is ∙ sym (back-ends net (T .network) I (run-of T l) (run-of T k) (B .from) (B .by))) none
+
+    -- so it may be relaxed after the edges
+    pub spread-back : {t base came : ℕ} {best previous best₁ previous₁ tree₁ best₂ previous₂ tree₂ left : List ℕ} → EveryExit net t u
+        → Left net t n best left → at left node < nothing → came ≡ start net u → nothing ≤ at left came
+        → Relaxed (edgeOf (bicycle net) t) (feetOf net) n u base best previous best₁ previous₁
+        → Settling n mostRunFeet u base (spentOf net left) best₁ previous₁ tree₁
+        → Offer (toUsable net t) (feetOf net) u base (at index (node * 8 + leg)) best₁ previous₁ best₂ previous₂
+        → Settling n mostRunFeet u base (spentOf net left) best₂ previous₂ tree₂
+        → Spread net t n u base best previous left best₂ previous₂ tree₂ (set left node nothing)
+    spread-back {t} {left = left} every L some is none R S₁ O S₂ =
+        let grows = spent-grows left node nothing some in
+        let both : Relaxed (leadsOf net t true) _ _ _ _ _ _ _ _ =
+        relaxed-both (λ r l. omega (arith, fair T .short r l, S₁ .room)) R
+        (relaxed-one (λ r l h e. back-at t r l e) back-behind (S₁ .long) (S₁ .long′) (offer-as (back-offer t) O)) in
+        record {
+          back = true;
+          only = λ r l b e. grows r l (back-spent t left (S₁ .inside) is none r l e);
+          relaxed = both;
+          settling = settling-spent grows S₂;
+          noted = noted-back A L both (S₁ .room) every some (leads-edge net t true u) (λ r. leads-back net t true u r refl);
+        }
 
     -- where one leg is left, an edge to a run without a label leads by that leg
     module _ {t : ℕ} {best left : List ℕ} (exit : ℕ) (L : Left net t n best left) (one : at left node ≡ exit + 1) where

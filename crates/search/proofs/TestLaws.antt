@@ -1,10 +1,11 @@
 -- What the tests of the code come to. Of a run that leaves the start, "usable" is "a source". Of a run that leaves by a leg of the node where another
 -- arrives, an edge leads to it exactly when that leg is not the leg of arrival, the level of the movement is within the tolerance, and the run is
--- usable. The level of a movement is the turn lane's at the arrival, onto the right-hand exit, or the greater of that and the crossing's.
+-- usable; where it is, the run goes back, and "usable" is "turns back". The level of a movement is the turn lane's at the arrival, onto the right-hand
+-- exit, or the greater of that and the crossing's.
 -- Assumes nothing.
 use mathlib.Core.Path.{_≡_, sym, _∙_, ap}
 use mathlib.Core.Bool as bool
-use mathlib.Core.Bool.{true, not, true≢false}
+use mathlib.Core.Bool.{true, not, true≢false, _&&_}
 use mathlib.Core.List.{List}
 use mathlib.Core.Logic.{⊎-elim}
 use Prim.Native.Nat.{ℕ, _+_, _≤_, _<_, max}
@@ -19,7 +20,8 @@ use Rattle.streets.specs.Exits.{rightHandExit}
 use Rattle.streets.specs.Bicycle.{bicycle, arrivalTurnLevel, arrivalCrossingLevel, runLevel, movementLevel}
 use Rattle.search.specs.Leaving.{Leaves, Entry}
 use Rattle.search.specs.Town.{Town, usable}
-use Rattle.search.specs.Left.{Arrives, EveryExit, RightOnly, Way}
+use Rattle.search.specs.Left.{Arrives, EveryExit, RightOnly, Way, turnsBack}
+use Rattle.search.proofs.TownLaws.{run-behind}
 
 pub source-usable : {net : List ℕ} {node leg r : ℕ} → Leaves net node leg r → (t : ℕ) → usable (bicycle net) t r ≡ sourceOf (bicycle net) t node r
 unfolding usable sourceOf
@@ -63,6 +65,23 @@ edge-onward net t u r e =
       level = E .turned;
     }
 
+-- ---- what a way back leads onto
+pub record Back (net : List ℕ) (u r : ℕ) : Type 0 where
+  pub from : start net r ≡ finish net u
+  pub by : leavingLeg net r ≡ arrivalLeg net u
+
+pub turns-back : (net : List ℕ) (t u r : ℕ) → turnsBack net t u r ≡ true → Back net u r
+unfolding turnsBack
+turns-back net t u r e =
+    let a = and-true (eqb (start net r) (finish net u) && eqb (leavingLeg net r) (arrivalLeg net u)) (usable (bicycle net) t r) e in
+    let b = and-true (eqb (start net r) (finish net u)) (eqb (leavingLeg net r) (arrivalLeg net u)) (a .0) in
+    record { from = eqb-true (start net r) (finish net u) (b .0); by = eqb-true (leavingLeg net r) (arrivalLeg net u) (b .1) }
+
+pub back-usable : (net : List ℕ) (t u r : ℕ) → start net r ≡ finish net u → leavingLeg net r ≡ arrivalLeg net u
+    → usable (bicycle net) t r ≡ turnsBack net t u r
+unfolding turnsBack
+back-usable net t u r from by = simp (eq-eqb (start net r) (finish net u) from, eq-eqb (leavingLeg net r) (arrivalLeg net u) by)
+
 -- above the tolerance no movement leads on
 pub turn-bars : (net : List ℕ) (t u r : ℕ) → t < arrivalTurnLevel net u → edgeOf (bicycle net) t u r ≡ true → ⊥
 turn-bars net t u r h e = omega (arith, level-either net u r, edge-onward net t u r e .level)
@@ -101,17 +120,14 @@ module _ {net : List ℕ} {n u node leg exit entry : ℕ} (T : Town net n) (A : 
   leaves-apart : (r : ℕ) → entry ≡ r + 1 → leavingLeg net r ≡ arrivalLeg net u → ⊥
   leaves-apart r e s = apart (omega (arith, E .leaving r e .by, A .by-leg .is))
 
-  behind-inside : (r : ℕ) → entry ≡ r + 1 → r < n
-  behind-inside r e = omega (arith, T .count, E .leaving r e .inside)
-
   pub way-every : {t : ℕ} → EveryExit net t u → Way net t n u entry
   way-every every =
-      record { inside = behind-inside; leads = λ r e. every-edge every r (leaves-node r e) (leaves-apart r e) }
+      record { inside = run-behind T E; leads = λ r e. every-edge every r (leaves-node r e) (leaves-apart r e) }
 
   pub way-right : {t : ℕ} → RightOnly net t u → exit ≡ rightHandExit net (finish net u) (arrivalLeg net u) → Way net t n u entry
   way-right {t} O is =
       record {
-        inside = behind-inside;
+        inside = run-behind T E;
         leads = λ r e.
             edge-usable net t u r (leaves-node r e) (leaves-apart r e) (omega (arith, level-right net u r (E .leaving r e .by ∙ is), O .turn));
       }

@@ -9,7 +9,7 @@ use Prim.Native.Nat.{ℕ, _+_, _*_, _≤_, _<_}
 use lib.Dec.{eqb}
 use lib.ListN.{length}
 use Rattle.routes.specs.Streets.{Streets}
-use Rattle.routes.specs.Labels.{Graph, unlabelled, First, Next, Labels}
+use Rattle.routes.specs.Labels.{Graph, unlabelled, First, Next, Follows, Sound}
 use Rattle.queue.specs.Queue.{top, at, Empty}
 use Rattle.search.specs.Keys.{span, labelKey, labelIn, runIn, key, IsKey}
 use Rattle.search.specs.Relax.{Relaxed}
@@ -23,13 +23,24 @@ pub record Fair (n : ℕ) (feet : ℕ → ℕ) (most : ℕ) : Type 0 where
   pub short : (r : ℕ) → r < n → feet r ≤ most
   pub room : n * most + most < unlabelled
 
+-- The same runs with an edge from each to each.
+abbrev pub loose : Graph → Graph
+loose w = record { size = w .size; source = w .source; edge = λ (p r : ℕ). true; feet = w .feet }
+
+-- The label of r is sound: its chain goes back to a source along edges.
+abbrev pub IsSound : Graph → List ℕ → List ℕ → ℕ → Type 0
+IsSound w best previous r = (k : ℕ) × Sound w (at best) (at previous) k r
+
 -- The invariant. Settled are the runs whose key is below m.
-pub record Settled (w : Graph) (best previous : List ℕ) (m : ℕ) : Type 0 where
+pub record Settled (w : Graph) (spent : ℕ → Bool) (best previous : List ℕ) (m : ℕ) : Type 0 where
   pub bounded : m ≤ top
   -- L0: each source is labelled, at most its own feet
   pub sources : (r : ℕ) → r < w .size → w .source r ≡ true → (at best r < unlabelled) × (at best r ≤ w .feet r)
-  -- L1: each label comes from somewhere
-  pub whence : (r : ℕ) → r < w .size → at best r < unlabelled → First w (at best) (at previous) r ⊎ Next w (at best) (at previous) r (at previous r)
+  -- each label is that of a source, or of the run before with the run's own feet added
+  pub whence : (r : ℕ) → r < w .size → at best r < unlabelled
+      → First (loose w) (at best) (at previous) r ⊎ Next (loose w) (at best) (at previous) r (at previous r)
+  -- L1, but for spent runs: they get labels too, and none by way of them
+  pub sound : (r : ℕ) → r < w .size → at best r < unlabelled → IsSound w best previous r ⊎ (spent r ≡ true)
   -- the run before a labelled run is settled
   pub earlier : (r : ℕ) → r < w .size → at best r < unlabelled → at previous r < w .size → key best (at previous r) < m
   -- L2: from each settled run every edge leads to a label that is no worse
@@ -62,9 +73,12 @@ pub record Settling (n most u base : ℕ) (spent : ℕ → Bool) (best previous 
   pub long′ : n ≤ length previous
   pub queued : Queued spent best tree n (labelKey base u + 1)
 
--- A round has settled the run with the key m: the edges from it are relaxed, and m′ is the next key.
+-- A round has settled the run with the key m: the edges from it are relaxed, and it may be others that lead to spent runs; m′ is the next key.
 pub record Round (edge : ℕ → ℕ → Bool) (feet : ℕ → ℕ) (n m : ℕ) (spent : ℕ → Bool) (best previous best′ previous′ tree′ : List ℕ) (m′ : ℕ) : Type 0 where
-  pub relaxed : Relaxed edge feet n (runIn m) (labelIn m) best previous best′ previous′
+  pub leads : ℕ → ℕ → Bool
+  pub all : (r : ℕ) → r < n → edge (runIn m) r ≡ true → leads (runIn m) r ≡ true
+  pub only : (r : ℕ) → r < n → leads (runIn m) r ≡ true → (edge (runIn m) r ≡ true) ⊎ (spent r ≡ true)
+  pub relaxed : Relaxed leads feet n (runIn m) (labelIn m) best previous best′ previous′
   pub next : Least spent best′ n (m + 1) m′
   pub long : n ≤ length best′
   pub long′ : n ≤ length previous′
@@ -80,9 +94,13 @@ NoGoal goal best n m = (r : ℕ) → r < n → key best r < m → goal r ≡ tru
 
 -- The search has stopped at m, the key of the first goal in the order of settling; or no goal is labelled, and m is `top`.
 pub record Stop (w : Graph) (goal : ℕ → Bool) (best previous : List ℕ) (m : ℕ) : Type 0 where
-  -- the certificate below m's label; at `top` it is the whole one
-  pub labels : Labels w (at best) (at previous) (labelIn m)
+  -- what leads on is right below m's label; at `top` it is right everywhere
+  pub follows : Follows w (at best) (labelIn m)
+  pub whence : (r : ℕ) → r < w .size → at best r < unlabelled
+      → First (loose w) (at best) (at previous) r ⊎ Next (loose w) (at best) (at previous) r (at previous r)
   pub bounded : m ≤ top
   pub none : NoGoal goal best (w .size) m
   pub whose : m < top → IsKey best (w .size) m
   pub goal-met : m < top → goal (runIn m) ≡ true
+  -- the label of the goal that is met is sound
+  pub sound : m < top → IsSound w best previous (runIn m)

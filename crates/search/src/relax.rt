@@ -1,6 +1,7 @@
 // Relaxing the edges from a run that is settled: the runs that they lead onto get their labels. What is left to find at a node is noted, so that a node
-// is looked over once: the first run to arrive from which every movement is within the tolerance labels every exit but the leg of its own arrival, and
-// the next such run that one. After that no arrival there finds anything, and a run that leads there need not be queued.
+// is looked over once: the first run to arrive from which every movement is within the tolerance labels every exit but the leg of its own arrival. If
+// nothing is left to find where that run came from, the run back there is of no use: it is labelled as if the bicycle could turn back, and never queued.
+// Else the next such arrival labels it. After that no arrival there finds anything, and a run that leads there need not be queued.
 ghost use Prim.Native.Nat.{_<_};
 ghost use Rattle.format.specs.Corners.{cornersOf, Indexed};
 ghost use Rattle.queue.specs.Queue.{at};
@@ -10,7 +11,7 @@ ghost use Rattle.streets.specs.Bicycle.{bicycle};
 ghost use Rattle.search.specs.Relax.{Offer, Relaxed};
 ghost use Rattle.search.specs.Search.{Settling};
 ghost use Rattle.search.specs.Town.{mostRunFeet, Town};
-ghost use Rattle.search.specs.Left.{nothing, Unknown, Left, spentOf, Arrives, EveryExit, RightOnly, Way, Spread};
+ghost use Rattle.search.specs.Left.{nothing, Unknown, Left, spentOf, Arrives, EveryExit, RightOnly, RunBehind, toUsable, Spread};
 use crate::labels::NONE;
 use crate::labels::write_label;
 use crate::usable::is_usable;
@@ -18,9 +19,10 @@ use streets::exits::right_hand_exit;
 use streets::movements::approach_of;
 use streets::runs::feet_of;
 use streets::runs::finish_of;
+use streets::runs::start_of;
 
 // Nothing is left to find at a node. A number below it is 1 + the one leg that is left, or 0 where any may be.
-const NOTHING: u8 = 9;
+pub const NOTHING: u8 = 9;
 
 // A number for each node: nothing is known of any.
 pub fn all_left() -> [u8; 1000]
@@ -37,8 +39,8 @@ pub struct Reached {
     pub leg: usize,
 }
 
-// Relaxes the edge onto the run behind an entry of the corner index: a run that has no label yet gets the one by way of the run that was reached. It is
-// queued unless it leads where nothing is left to find.
+// Visits the run behind an entry of the corner index: a usable run that has no label yet gets the one by way of the run that was reached. It is queued
+// unless it leads where nothing is left to find.
 fn relax_leg(
     net: &[u8],
     n: usize,
@@ -50,8 +52,8 @@ fn relax_leg(
     tree: &mut [u64],
     left: &[u8; 1000],
 )
-    requires { ⌜ Town (now net) n × Way (now net) tolerance n (here .run) entry × Settling n mostRunFeet (here .run) (here .label) (spentOf (now net) (now left)) (now best) (now previous) (now tree) ⌝ }
-    ensures { λ _. ⌜ Offer (edgeOf (bicycle (now (net .entry))) tolerance) (feetOf (now (net .entry))) (here .run) (here .label) entry (now (best .entry)) (now (previous .entry)) (now (best .exit)) (now (previous .exit)) ⌝ }
+    requires { ⌜ Town (now net) n × RunBehind n entry × Settling n mostRunFeet (here .run) (here .label) (spentOf (now net) (now left)) (now best) (now previous) (now tree) ⌝ }
+    ensures { λ _. ⌜ Offer (toUsable (now (net .entry)) tolerance) (feetOf (now (net .entry))) (here .run) (here .label) entry (now (best .entry)) (now (previous .entry)) (now (best .exit)) (now (previous .exit)) ⌝ }
     ensures { λ _. ⌜ Settling n mostRunFeet (here .run) (here .label) (spentOf (now (net .entry)) (now (left .entry))) (now (best .exit)) (now (previous .exit)) (now (tree .exit)) ⌝ }
 {
     if entry == 0 {
@@ -145,6 +147,12 @@ fn relax_every(
     let rest = left[node];
     if rest == 0 {
         relax_others(net, index, n, tolerance, here, best, previous, tree, left);
+        if NOTHING <= left[start_of(net, here.run)] {
+            let back = index[node * 8 + leg];
+            relax_leg(net, n, tolerance, here, back, best, previous, tree, left);
+            left[node] = NOTHING;
+            return;
+        }
         left[node] = 1 + leg as u8;
         return;
     }

@@ -11,6 +11,7 @@ ghost use Rattle.search.specs.Search.{arrivesAt, NoKeys, Stop};
 ghost use Rattle.search.specs.Town.{Town, townGraph};
 ghost use Rattle.search.specs.Left.{Unknown};
 use crate::begin::begin;
+use crate::relax::NOTHING;
 use crate::relax::all_left;
 use crate::settle::settle;
 use queue::TOP;
@@ -37,10 +38,11 @@ fn search_to(
     tree: &mut [u64],
     left: &mut [u8; 1000],
 ) -> u64
-    requires { ⌜ Town (now net) n × Indexed (cornersOf (now net)) (now index) × (from < nodesOf (now net)) × (to < nodesOf (now net)) × (n ≤ length (now best)) × (n ≤ length (now previous)) × Empty (now tree) n × Unknown (now left) ⌝ }
+    requires { ⌜ Town (now net) n × Indexed (cornersOf (now net)) (now index) × (from < nodesOf (now net)) × (to < nodesOf (now net)) × (from ≡ to → ⊥) × (n ≤ length (now best)) × (n ≤ length (now previous)) × Empty (now tree) n × Unknown (now left) ⌝ }
     ensures { λ r. ⌜ Stop (townGraph (now (net .entry)) n tolerance from) (arrivesAt (bicycle (now (net .entry))) to) (now (best .exit)) (now (previous .exit)) r ⌝ }
 {
     begin(net, index, n, tolerance, from, best, previous, tree);
+    left[from] = NOTHING;
     let mut key = least(n, tree);
     while key < TOP {
         let run = (key % 65536) as usize;
@@ -70,7 +72,7 @@ pub fn nearest(
     best: &mut [u32],
     previous: &mut [u32],
 ) -> u64
-    requires { ⌜ Town (now net) n × Indexed (cornersOf (now net)) (now index) × (from < nodesOf (now net)) × (to < nodesOf (now net)) × (n ≤ length (now best)) × (n ≤ length (now previous)) ⌝ }
+    requires { ⌜ Town (now net) n × Indexed (cornersOf (now net)) (now index) × (from < nodesOf (now net)) × (to < nodesOf (now net)) × (from ≡ to → ⊥) × (n ≤ length (now best)) × (n ≤ length (now previous)) ⌝ }
     ensures { λ r. ⌜ Stop (townGraph (now (net .entry)) n tolerance from) (arrivesAt (bicycle (now (net .entry))) to) (now (best .exit)) (now (previous .exit)) r ⌝ }
 {
     let mut tree = no_keys();

@@ -87,8 +87,15 @@ loop-again c =
     let s = after-before .before in
     let i = after-loop .loop .inv in
     let o = after-begin-at .begin-at in
-    let E = entry-leaves (s .args .net .now) (s .pre .0 .network) (s .pre .1) (s .pre .2) (after-loop-test .loop-test .taken) in
-    (omega (arith, after-loop-test .loop-test .taken), started-more (i .1) (λ r x. let L = E .leaving r x in (omega (arith, s .pre .0 .count, L .inside), source-usable L (s .args .tolerance))) (omega (arith, s .pre .3, i .2, after-clear-labels .clear-labels .kept .1 .0)) (omega (arith, s .pre .4, i .3)) (o .ensures), o .kept .1 .1 .1 .1 .0 ∙ i .2, o .kept .1 .1 .1 .1 .1 .0 ∙ i .3, o .kept .1 .1 .1 .1 .1 .1 .0 ∙ i .4)
+    let E = entry-leaves (s .args .net .now) (s .pre .0 .network) (s .pre .1) (s .pre .2) (after-loop-test .loop-test .taken) in (
+      omega (arith, after-loop-test .loop-test .taken),
+      started-more (i .1) (λ r x. let L = E .leaving r x in (omega (arith, s .pre .0 .count, L .inside), source-usable L (s .args .tolerance)))
+          (omega (arith, s .pre .3, i .2, after-clear-labels .clear-labels .kept .1 .0)) (omega (arith, s .pre .4, i .3))
+          (o .ensures),
+      o .kept .1 .1 .1 .1 .0 ∙ i .2,
+      o .kept .1 .1 .1 .1 .1 .0 ∙ i .3,
+      o .kept .1 .1 .1 .1 .1 .1 .0 ∙ i .4,
+    )
 
 same-length : tie.Need-same-length Inv-loop μ-loop
 same-length c = search needs

@@ -27,9 +27,10 @@ cast-t c = search needs
 
 nearest-requires : tie.Need-nearest-requires
 nearest-requires c κs =
-    let s = c .before .before .before .before .before .before .before .before in
+    let apart = c .before .before .before in
+    let s = apart .before .before .before .before .before in
     let e = c .before .before .segments-of .ensures in
-    (town (s .pre .0) e, s .pre .1, s .pre .2, s .pre .3, omega (arith, e, s .pre .6), omega (arith, e, s .pre .7))
+    (town (s .pre .0) e, s .pre .1, s .pre .2, s .pre .3, apart .if1 .left, omega (arith, e, s .pre .6), omega (arith, e, s .pre .7))
 
 same-length : tie.Need-same-length
 same-length c = search needs
@@ -44,8 +45,11 @@ returns-2 c =
     let after-if1 = after-segments-of .before in
     let after-before = after-if1 .before .before .before .before in
     let s = after-before .before in
-    let e = after-segments-of .segments-of .ensures in
-    (refl, stop-none (bicycle (s .args .net .now)) (s .args .tolerance) _ _ (fair (town (s .pre .0) refl)) (rw e at (after-nearest .nearest .ensures)) (after-if1 .if1 .left) (c .if2 .taken))
+    let e = after-segments-of .segments-of .ensures in (
+      refl,
+      stop-none (bicycle (s .args .net .now)) (s .args .tolerance) _ _ (fair (town (s .pre .0) refl))
+          (rw e at (after-nearest .nearest .ensures)) (after-if1 .if1 .left) (c .if2 .taken),
+    )
 
 count-runs-requires : tie.Need-count-runs-requires
 count-runs-requires c κs =
@@ -54,8 +58,12 @@ count-runs-requires c κs =
     let after-before = after-segments-of .before .before .before .before .before in
     let s = after-before .before in
     let e = after-segments-of .segments-of .ensures in
-    let o = after-nearest .nearest in
-    (few-runs (town (s .pre .0) e), omega (arith, e, s .pre .7, o .kept .1 .1 .1 .1 .1 .1 .1 .0), rw e (stop-ends (bicycle (s .args .net .now)) (s .args .tolerance) _ _ (fair (town (s .pre .0) refl)) (rw e at (o .ensures)) (c .before .if2 .left)))
+    let o = after-nearest .nearest in (
+      few-runs (town (s .pre .0) e),
+      omega (arith, e, s .pre .7, o .kept .1 .1 .1 .1 .1 .1 .1 .0),
+      rw e (stop-ends (bicycle (s .args .net .now)) (s .args .tolerance) _ _ (fair (town (s .pre .0) refl)) (rw e at (o .ensures))
+          (c .before .if2 .left)),
+    )
 
 route-level-requires : tie.Need-route-level-requires
 route-level-requires c κs =
@@ -86,8 +94,12 @@ fill-requires c κs =
     let after-before = after-segments-of .before .before .before .before .before in
     let s = after-before .before in
     let e = after-segments-of .segments-of .ensures in
-    let K = after-count-runs .count-runs .ensures in
-    (few-runs (town (s .pre .0) e), omega (arith, e, s .pre .7, after-nearest .nearest .kept .1 .1 .1 .1 .1 .1 .1 .0), simp (length-take, length-drop) (omega (arith, e, s .pre .8, K .few)), K)
+    let K = after-count-runs .count-runs .ensures in (
+      few-runs (town (s .pre .0) e),
+      omega (arith, e, s .pre .7, after-nearest .nearest .kept .1 .1 .1 .1 .1 .1 .1 .0),
+      simp (length-take, length-drop) (omega (arith, e, s .pre .8, K .few)),
+      K,
+    )
 
 cast-t34 : tie.Need-cast-t34
 cast-t34 c = search needs

@@ -2,9 +2,8 @@
 -- Else every movement is within the tolerance, or only the one onto the right-hand exit.
 -- Assumes nothing.
 use Rattle.search.proofs.Exits.{relaxed-none}
-use Rattle.search.proofs.TownLaws.{run-of}
 use Rattle.search.proofs.TestLaws.{turn-bars}
-use Rattle.search.proofs.LeftLaws.{noted-same, nothing-left}
+use Rattle.search.proofs.LeftLaws.{spread-edges, noted-same, nothing-left}
 use native.Mathlib.Omega.{arith}
 use borrow.Author.Needs.{needs}
 use Rattle.search.proofs.relax.relax.Statement.{statement}
@@ -17,7 +16,7 @@ returns : tie.Need-returns
 returns c =
     let s = c .before .before .before .before .before .before in
     let R = relaxed-none (nothing-left (s .pre .0) (s .pre .2) (s .pre .3) (c .if1 .taken)) in
-    record { relaxed = R; settling = s .pre .4; noted = noted-same (s .pre .0) (s .pre .2) (s .pre .3) R (s .pre .4 .room) }
+    spread-edges R (s .pre .4) (noted-same (s .pre .0) (s .pre .2) (s .pre .3) R (s .pre .4 .room))
 
 approach-of-requires : tie.Need-approach-of-requires
 approach-of-requires c κs = search needs
@@ -55,8 +54,13 @@ relax-right-requires c κs =
     let after-approach-of = after-if2 .before .before in
     let after-before = after-approach-of .before .before .before .before .before .before in
     let s = after-before .before in
-    let a = after-approach-of .approach-of .ensures in
-    (s .pre .0, s .pre .1, s .pre .2, record { turn = omega (arith, a .onto-exit, after-if3 .if3 .taken); across = omega (arith, a .onto-other, after-if2 .if2 .left) }, s .pre .4)
+    let a = after-approach-of .approach-of .ensures in (
+      s .pre .0,
+      s .pre .1,
+      s .pre .2,
+      record { turn = omega (arith, a .onto-exit, after-if3 .if3 .taken); across = omega (arith, a .onto-other, after-if2 .if2 .left) },
+      s .pre .4,
+    )
 
 same-length-4 : tie.Need-same-length-4
 same-length-4 c = search needs
@@ -74,7 +78,7 @@ returns-3 c =
     after-relax-right .before .before .before .before .before .before .before .before .before .before .before .before .before .before .before in
     let s = after-before .before in
     let o = after-relax-right .relax-right .ensures in
-    record { relaxed = o .0; settling = o .1; noted = noted-same (s .pre .0) (s .pre .2) (s .pre .3) (o .0) (s .pre .4 .room) }
+    spread-edges (o .0) (o .1) (noted-same (s .pre .0) (s .pre .2) (s .pre .3) (o .0) (s .pre .4 .room))
 
 returns-4 : tie.Need-returns-4
 returns-4 c =
@@ -85,7 +89,7 @@ returns-4 c =
     let R =
     relaxed-none
     (λ r l none e. turn-bars (s .args .net .now) (s .args .tolerance) (s .args .here .run) r (omega (arith, a .onto-exit, c .if3 .left)) e) in
-    record { relaxed = R; settling = s .pre .4; noted = noted-same (s .pre .0) (s .pre .2) (s .pre .3) R (s .pre .4 .room) }
+    spread-edges R (s .pre .4) (noted-same (s .pre .0) (s .pre .2) (s .pre .3) R (s .pre .4 .room))
 
 pub relax-spec : {M : Type 1} → statement M
 relax-spec =

@@ -1,4 +1,4 @@
--- No run is behind the entry; or it has a label already; or it is not usable, so that no edge leads to it. Else it gets the label of the run reached with
+-- No run is behind the entry; or it has a label already; or it is not usable. Else it gets the label of the run reached with
 -- its own feet added, for which there is room. It was not queued, having no label. It is queued above the key of the run that is being settled, or,
 -- where nothing is left to find where it leads, it is spent and stays out.
 -- Assumes nothing.
@@ -7,7 +7,7 @@ use Prim.Native.Nat.{ℕ, _+_, _-_}
 use lib.ListN.{set}
 use Rattle.search.specs.Relax.{kept, barred, labelled, free, leads}
 use Rattle.search.proofs.Queueing.{settling-free, settling-more, settling-without}
-use Rattle.search.proofs.TownLaws.{fair, few-runs, run-of, behind}
+use Rattle.search.proofs.TownLaws.{fair, few-runs, behind}
 use Rattle.search.proofs.LeftLaws.{spent-at}
 use native.Mathlib.Omega.{arith}
 use borrow.Author.Needs.{needs}
@@ -110,8 +110,7 @@ returns-3 c =
     let B = behind (s .pre .0) (s .pre .1) (after-if1 .if1 .left) in
     let v = ap (λ (x : ℕ). s .args .here .label + x) (after-feet-of .feet-of .ensures) in
     let none = after-if2 .if2 .left in
-    let own = s .pre .1 .leads (s .args .entry - 1) (omega (arith, after-if1 .if1 .left)) in
-    (leads (labelled none (sym own ∙ sym (after-is-usable .is-usable .ensures) ∙ after-if3 .if3 .taken) (ap (set (s .args .best .now) (s .args .entry - 1)) v) refl) (omega (arith, after-if1 .if1 .left)), settling-without (fair (s .pre .0)) (s .pre .2) (B .inside) v none (spent-at _ _ _ (after-finish-of .finish-of .ensures .is) (c .before .if4 .taken)))
+    (leads (labelled none (sym (after-is-usable .is-usable .ensures) ∙ after-if3 .if3 .taken) (ap (set (s .args .best .now) (s .args .entry - 1)) v) refl) (omega (arith, after-if1 .if1 .left)), settling-without (fair (s .pre .0)) (s .pre .2) (B .inside) v none (spent-at _ _ _ (after-finish-of .finish-of .ensures .is) (c .before .if4 .taken)))
 
 cast-write-label : tie.Need-cast-write-label
 cast-write-label c =
@@ -160,16 +159,14 @@ returns-4 c =
     let B = behind (s .pre .0) (s .pre .1) (after-if1 .if1 .left) in
     let W = after-write-label .write-label .ensures in
     let v = ap (λ (x : ℕ). s .args .here .label + x) (after-feet-of .feet-of .ensures) in
-    let own = s .pre .1 .leads (s .args .entry - 1) (omega (arith, after-if1 .if1 .left)) in
-    (leads (labelled (after-if2 .if2 .left) (sym own ∙ sym (after-is-usable .is-usable .ensures) ∙ after-if3 .if3 .taken) (W .best-is ∙ ap (set (s .args .best .now) (s .args .entry - 1)) v) (W .previous-is)) (omega (arith, after-if1 .if1 .left)), rw (W .best-is, W .previous-is) (settling-more (fair (s .pre .0)) (s .pre .2) (B .inside) v (W .queued)))
+    (leads (labelled (after-if2 .if2 .left) (sym (after-is-usable .is-usable .ensures) ∙ after-if3 .if3 .taken) (W .best-is ∙ ap (set (s .args .best .now) (s .args .entry - 1)) v) (W .previous-is)) (omega (arith, after-if1 .if1 .left)), rw (W .best-is, W .previous-is) (settling-more (fair (s .pre .0)) (s .pre .2) (B .inside) v (W .queued)))
 
 returns-5 : tie.Need-returns-5
 returns-5 c =
     let after-if1 = c .before .before .before .before in
     let after-before = after-if1 .before .before .before .before in
     let s = after-before .before in
-    let own = s .pre .1 .leads (s .args .entry - 1) (omega (arith, after-if1 .if1 .left)) in
-    (leads (barred (sym own ∙ sym (c .before .is-usable .ensures) ∙ c .if3 .left) refl refl) (omega (arith, after-if1 .if1 .left)), s .pre .2)
+    (leads (barred (sym (c .before .is-usable .ensures) ∙ c .if3 .left) refl refl) (omega (arith, after-if1 .if1 .left)), s .pre .2)
 
 pub relax-leg-spec : {M : Type 1} → statement M
 relax-leg-spec =

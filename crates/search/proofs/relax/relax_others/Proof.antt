@@ -10,8 +10,8 @@ use Rattle.streets.specs.Runs.{feetOf}
 use Rattle.streets.specs.Bicycle.{bicycle}
 use Rattle.search.specs.Search.{Settling}
 use Rattle.search.specs.Town.{mostRunFeet}
-use Rattle.search.specs.Left.{spentOf, Way}
-use Rattle.search.proofs.Exits.{Offered, offered-none, offered-more, offered-all}
+use Rattle.search.specs.Left.{spentOf}
+use Rattle.search.proofs.Exits.{Offered, offered-none, offered-more, offered-all, offer-as}
 use Rattle.search.proofs.LeftLaws.{others-at, others-way}
 use native.Mathlib.Omega.{arith}
 use borrow.Author.Needs.{needs}
@@ -21,7 +21,8 @@ use Rattle.search.proofs.relax.relax_others.Tie as tie
 abbrev Inv-loop : tie.InvT-loop
 Inv-loop net index n tolerance here best₀ previous₀ tree₀ left place leg k₀ best previous tree k =
     (k ≤ 7)
-    × Offered (edgeOf (bicycle net) tolerance) (feetOf net) (here .run) (here .label) (λ (j : ℕ). at index (here .node * 8 + (here .leg + 1 + j) % 8)) k best₀ previous₀ best previous
+    × Offered (edgeOf (bicycle net) tolerance) (feetOf net) (here .run) (here .label)
+    (λ (j : ℕ). at index (here .node * 8 + (here .leg + 1 + j) % 8)) k best₀ previous₀ best previous
     × Settling n mostRunFeet (here .run) (here .label) (spentOf net left) best previous tree
     × (length tree ≡ length tree₀)
 
@@ -55,7 +56,7 @@ relax-leg-requires c κs =
     let after-loop = after-loop-test .before in
     let after-before = after-loop .before .before .before .before .before in
     let s = after-before .before in
-    (s .pre .0, others-way (s .pre .0) (s .pre .1) (s .pre .2) (s .pre .3) (after-loop-test .loop-test .taken), after-loop .loop .inv .2)
+    (s .pre .0, others-way (s .pre .0) (s .pre .1) (s .pre .2) (s .pre .3) (after-loop-test .loop-test .taken) .inside, after-loop .loop .inv .2)
 
 add-k : tie.Need-add-k Inv-loop μ-loop
 add-k c = search needs
@@ -73,8 +74,13 @@ loop-again c =
     let s = after-before .before in
     let i = after-loop .loop .inv in
     let o = after-relax-leg .relax-leg in
-    let W = others-way (s .pre .0) (s .pre .1) (s .pre .2) (s .pre .3) (after-loop-test .loop-test .taken) in
-    (omega (arith, after-loop-test .loop-test .taken), offered-more (i .1) (W .inside) (s .pre .4 .long) (s .pre .4 .long′) (o .ensures .0), o .ensures .1, o .kept .1 .1 .1 .1 .1 .1 .1 .0 ∙ i .3)
+    let W = others-way (s .pre .0) (s .pre .1) (s .pre .2) (s .pre .3) (after-loop-test .loop-test .taken) in (
+      omega (arith, after-loop-test .loop-test .taken),
+      offered-more (i .1) (W .inside) (s .pre .4 .long) (s .pre .4 .long′)
+          (offer-as (W .leads) (o .ensures .0)),
+      o .ensures .1,
+      o .kept .1 .1 .1 .1 .1 .1 .1 .0 ∙ i .3,
+    )
 
 same-length : tie.Need-same-length Inv-loop μ-loop
 same-length c = search needs

@@ -2,7 +2,7 @@
 -- that every edge is relaxed.
 -- Assumes nothing.
 use mathlib.Core.Path.{sym, _∙_}
-use Rattle.search.proofs.Exits.{relaxed-none, relaxed-one}
+use Rattle.search.proofs.Exits.{relaxed-none, relaxed-one, offer-as}
 use Rattle.search.proofs.TestLaws.{edge-onward, right-by}
 use Rattle.search.proofs.LeftLaws.{right-exit, right-at, right-way}
 use native.Mathlib.Omega.{arith}
@@ -19,8 +19,10 @@ returns c =
     let after-before = after-before .before in
     let s = after-before .before in
     let x = right-exit (s .pre .0) (s .pre .1) (s .pre .2) (c .before .before .right-hand-exit .result) (c .before .before .right-hand-exit .ensures)
-    in
-    (relaxed-none (λ r l none e. edge-onward _ _ _ r e .apart (right-by (s .pre .3) r e ∙ sym (x .1) ∙ c .if1 .taken ∙ s .pre .2 .by-leg .is)), s .pre .4)
+    in (
+      relaxed-none (λ r l none e. edge-onward _ _ _ r e .apart (right-by (s .pre .3) r e ∙ sym (x .1) ∙ c .if1 .taken ∙ s .pre .2 .by-leg .is)),
+      s .pre .4,
+    )
 
 mul-entry : tie.Need-mul-entry
 mul-entry c = search needs
@@ -29,22 +31,34 @@ add-entry : tie.Need-add-entry
 add-entry c =
     let after-before = c .before .before .before .before .before .before in
     let start = after-before .before in
-    omega
-    (arith, start .pre .2 .at-node .few, right-exit (start .pre .0) (start .pre .1) (start .pre .2) (c .before .before .right-hand-exit .result) (c .before .before .right-hand-exit .ensures) .0)
+    omega (
+      arith,
+      start .pre .2 .at-node .few,
+      right-exit (start .pre .0) (start .pre .1) (start .pre .2) (c .before .before .right-hand-exit .result)
+          (c .before .before .right-hand-exit .ensures) .0,
+    )
 
 mul-entry-2 : tie.Need-mul-entry-2
 mul-entry-2 c =
     let after-before = c .before .before .before .before .before .before in
     let start = after-before .before in
-    omega
-    (arith, start .pre .2 .at-node .few, right-exit (start .pre .0) (start .pre .1) (start .pre .2) (c .before .before .right-hand-exit .result) (c .before .before .right-hand-exit .ensures) .0)
+    omega (
+      arith,
+      start .pre .2 .at-node .few,
+      right-exit (start .pre .0) (start .pre .1) (start .pre .2) (c .before .before .right-hand-exit .result)
+          (c .before .before .right-hand-exit .ensures) .0,
+    )
 
 element-copy-out-entry : tie.Need-element-copy-out-entry
 element-copy-out-entry c =
     let after-before = c .before .before .before .before .before .before in
     let start = after-before .before in
-    omega
-    (arith, start .pre .2 .at-node .few, right-exit (start .pre .0) (start .pre .1) (start .pre .2) (c .before .before .right-hand-exit .result) (c .before .before .right-hand-exit .ensures) .0)
+    omega (
+      arith,
+      start .pre .2 .at-node .few,
+      right-exit (start .pre .0) (start .pre .1) (start .pre .2) (c .before .before .right-hand-exit .result)
+          (c .before .before .right-hand-exit .ensures) .0,
+    )
 
 relax-leg-requires : tie.Need-relax-leg-requires
 relax-leg-requires c κs =
@@ -52,8 +66,12 @@ relax-leg-requires c κs =
     let after-if1 = after-before .before in
     let after-right-hand-exit = after-if1 .before .before in
     let after-before = after-right-hand-exit .before .before .before .before in
-    let s = after-before .before in
-    (s .pre .0, right-way (s .pre .0) (s .pre .1) (s .pre .2) (s .pre .3) (after-right-hand-exit .right-hand-exit .ensures) (after-if1 .if1 .left), s .pre .4)
+    let s = after-before .before in (
+      s .pre .0,
+      right-way (s .pre .0) (s .pre .1) (s .pre .2) (s .pre .3) (after-right-hand-exit .right-hand-exit .ensures)
+          (after-if1 .if1 .left) .inside,
+      s .pre .4,
+    )
 
 same-length : tie.Need-same-length
 same-length c = search needs
@@ -74,8 +92,11 @@ returns-2 c =
     let s = after-before .before in
     let x = right-exit (s .pre .0) (s .pre .1) (s .pre .2) (after-right-hand-exit .right-hand-exit .result)
     (after-right-hand-exit .right-hand-exit .ensures) in let W = right-way (s .pre .0) (s .pre .1) (s .pre .2) (s .pre .3)
-    (after-right-hand-exit .right-hand-exit .ensures) (after-if1 .if1 .left) in let o = after-relax-leg .relax-leg .ensures in
-    (relaxed-one (λ r l none e. right-at (s .pre .0) (s .pre .1) (s .pre .2) (s .pre .3) (x .1) r l e) (W .inside) (s .pre .4 .long) (s .pre .4 .long′) (o .0), o .1)
+    (after-right-hand-exit .right-hand-exit .ensures) (after-if1 .if1 .left) in let o = after-relax-leg .relax-leg .ensures in (
+      relaxed-one (λ r l none e. right-at (s .pre .0) (s .pre .1) (s .pre .2) (s .pre .3) (x .1) r l e) (W .inside) (s .pre .4 .long)
+          (s .pre .4 .long′) (offer-as (W .leads) (o .0)),
+      o .1,
+    )
 
 pub relax-right-spec : {M : Type 1} → statement M
 relax-right-spec =

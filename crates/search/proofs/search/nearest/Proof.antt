@@ -20,8 +20,17 @@ search-to-requires c κs =
     let after-all-left = c .before .before .before .before in
     let after-no-keys = after-all-left .before in
     let after-before = after-no-keys .before .before .before in
-    let s = after-before .before in
-    (s .pre .0, s .pre .1, s .pre .2, s .pre .3, s .pre .4, s .pre .5, after-no-keys .no-keys .ensures _ (few-runs (s .pre .0)), after-all-left .all-left .ensures)
+    let s = after-before .before in (
+      s .pre .0,
+      s .pre .1,
+      s .pre .2,
+      s .pre .3,
+      s .pre .4,
+      s .pre .5,
+      s .pre .6,
+      after-no-keys .no-keys .ensures _ (few-runs (s .pre .0)),
+      after-all-left .all-left .ensures,
+    )
 
 same-length : tie.Need-same-length
 same-length c = search needs

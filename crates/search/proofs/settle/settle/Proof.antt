@@ -3,6 +3,7 @@
 -- Assumes nothing.
 use Rattle.search.proofs.Queueing.{settling-begins, settling-ends}
 use Rattle.search.proofs.TownLaws.{run-of, fair}
+use Rattle.search.proofs.LeftLaws.{spread-all, spread-only}
 use native.Mathlib.Omega.{arith}
 use borrow.Author.Needs.{needs}
 use Rattle.search.proofs.settle.settle.Statement.{statement}
@@ -31,8 +32,13 @@ relax-requires c κs =
     let after-finish-of = after-arrival-leg .before in
     let after-put = after-finish-of .before .before .before in
     let after-before = after-put .before .before .before .before .before in
-    let s = after-before .before in
-    (s .pre .0, s .pre .1, record { at-node = after-finish-of .finish-of .ensures; by-leg = after-arrival-leg .arrival-leg .ensures }, s .pre .3, settling-begins (fair (s .pre .0) .small) (s .pre .2) (after-put .remove .ensures))
+    let s = after-before .before in (
+      s .pre .0,
+      s .pre .1,
+      record { at-node = after-finish-of .finish-of .ensures; by-leg = after-arrival-leg .arrival-leg .ensures },
+      s .pre .3,
+      settling-begins (fair (s .pre .0) .small) (s .pre .2) (after-put .remove .ensures),
+    )
 
 least-requires : tie.Need-least-requires
 least-requires c κs = search needs
@@ -52,7 +58,7 @@ returns c =
     let after-before = after-relax .before .before .before .before .before .before .before .before .before .before .before .before .before .before in
     let s = after-before .before in
     let r = after-relax .relax .ensures in
-    (settling-ends (fair (s .pre .0) .small) (s .pre .2) (r .relaxed) (r .settling) (c .least .ensures), r .noted)
+    (settling-ends (fair (s .pre .0) .small) (s .pre .2) (spread-all r) (spread-only r) (r .relaxed) (r .settling) (c .least .ensures), r .noted)
 
 pub settle-spec : {M : Type 1} → statement M
 settle-spec =

@@ -68,7 +68,8 @@ loop-again c =
     let after-loop-test = after-movement-level .before .before in
     let after-loop = after-loop-test .before in
     levelled-more (after-loop .loop .inv) (after-loop-test .loop-test .taken)
-    (c .greater2 .ensures ∙ ap₂ max (c .before .run-level2 .ensures) (c .before .before .greater .ensures ∙ ap (λ (x : ℕ). max x (after-loop .loop .level)) (after-movement-level .movement-level .ensures)))
+    (c .greater2 .ensures ∙ ap₂ max (c .before .run-level2 .ensures)
+    (c .before .before .greater .ensures ∙ ap (λ (x : ℕ). max x (after-loop .loop .level)) (after-movement-level .movement-level .ensures)))
 
 returns : tie.Need-returns Inv-loop μ-loop
 returns c = levelled-all (c .before .loop .inv) (omega arith)
