@@ -59,25 +59,53 @@ fn median(mut samples: Vec<f64>) -> f64 {
     samples[samples.len() / 2]
 }
 
-/// Both sides by turns, each first in every other turn.
-fn time(towns: &mut [Subject], call: Call) -> Times {
+/// How many times a sample asks every town's questions.
+fn rounds(towns: &mut [Subject], call: Call) -> usize {
     let once = sample(towns, Side::Twin, call, 1) * (towns.len() * QUESTIONS) as f64;
-    let rounds = 1 + (SAMPLE / once) as usize;
-    let mut turn = |turn: usize| {
-        if turn.is_multiple_of(2) {
-            let archive = sample(towns, Side::Archive, call, rounds);
-            (archive, sample(towns, Side::Twin, call, rounds))
-        } else {
-            let twin = sample(towns, Side::Twin, call, rounds);
-            (sample(towns, Side::Archive, call, rounds), twin)
-        }
-    };
-    let turns: Vec<(f64, f64)> = (0..SAMPLES).map(&mut turn).collect();
-    Times {
-        archive: median(turns.iter().map(|turn| turn.0).collect()),
-        twin: median(turns.iter().map(|turn| turn.1).collect()),
-        ratio: median(turns.iter().map(|turn| turn.0 / turn.1).collect()),
+    1 + (SAMPLE / once) as usize
+}
+
+/// A sample of each side, the archive's first in every other turn.
+fn both(towns: &mut [Subject], call: Call, rounds: usize, turn: usize) -> (f64, f64) {
+    if turn.is_multiple_of(2) {
+        let archive = sample(towns, Side::Archive, call, rounds);
+        (archive, sample(towns, Side::Twin, call, rounds))
+    } else {
+        let twin = sample(towns, Side::Twin, call, rounds);
+        (sample(towns, Side::Archive, call, rounds), twin)
     }
+}
+
+/// The towns of each size by turns: what slows the machine for a while then
+/// slows all of them, and changes neither ratios nor growth.
+fn turns(sizes: &mut [Vec<Subject>], call: Call) -> Vec<Vec<(f64, f64)>> {
+    let rounds: Vec<usize> = sizes.iter_mut().map(|towns| rounds(towns, call)).collect();
+    let turn = |turn: usize| {
+        let each = sizes.iter_mut().zip(&rounds);
+        each.map(|(towns, &rounds)| both(towns, call, rounds, turn))
+            .collect()
+    };
+    (0..SAMPLES).map(turn).collect()
+}
+
+/// The medians for the towns of one size.
+fn times(turns: &[Vec<(f64, f64)>], size: usize) -> Times {
+    let of =
+        |value: fn((f64, f64)) -> f64| median(turns.iter().map(|turn| value(turn[size])).collect());
+    Times {
+        archive: of(|(archive, _)| archive),
+        twin: of(|(_, twin)| twin),
+        ratio: of(|(archive, twin)| archive / twin),
+    }
+}
+
+/// How the time of each side grows from the first size to the last.
+fn growth(turns: &[Vec<(f64, f64)>]) -> (f64, f64) {
+    let of = |side: fn((f64, f64)) -> f64| {
+        let grown = |turn: &Vec<(f64, f64)>| side(turn[turn.len() - 1]) / side(turn[0]);
+        median(turns.iter().map(grown).collect())
+    };
+    (of(|(archive, _)| archive), of(|(_, twin)| twin))
 }
 
 /// How many of a hundred questions have a route.
@@ -109,15 +137,11 @@ fn by_size() {
     SIZES.iter().for_each(|size| print!(" {size} segments |"));
     println!(" growth |\n|---|---|---|---|---|---|");
     for call in Call::ALL {
-        let times: Vec<Times> = sizes.iter_mut().map(|towns| time(towns, call)).collect();
+        let turns = turns(&mut sizes, call);
         print!("| {} |", call.title());
-        times.iter().for_each(|each| print!(" {} |", each.cell()));
-        let (first, last) = (times[0], times[times.len() - 1]);
-        println!(
-            " {:.1} / {:.1} |",
-            last.archive / first.archive,
-            last.twin / first.twin
-        );
+        (0..SIZES.len()).for_each(|size| print!(" {} |", times(&turns, size).cell()));
+        let (archive, twin) = growth(&turns);
+        println!(" {archive:.1} / {twin:.1} |");
     }
     print!("\nRoutes found, of a hundred pairs");
     for (size, towns) in SIZES.iter().zip(&mut sizes) {
@@ -150,7 +174,7 @@ fn by_shape() {
         if town.segments.len() < 100 {
             continue; // one node, or none with streets: nothing to time
         }
-        let mut towns = subjects(|seed| gen::town(shape, seed, 1_000));
+        let mut towns = [subjects(|seed| gen::town(shape, seed, 1_000))];
         print!(
             "| {} | {}, {} |",
             shape.name(),
@@ -158,7 +182,7 @@ fn by_shape() {
             town.segments.len()
         );
         for call in CALLS {
-            print!(" {} |", time(&mut towns, call).cell());
+            print!(" {} |", times(&turns(&mut towns, call), 0).cell());
         }
         println!();
     }
@@ -187,7 +211,7 @@ fn main() {
         machine()
     );
     println!(
-        "Grids with mixed streets; growth is from {} segments to {}.\n",
+        "Grids with mixed streets; growth is from {} segments to {}, sizes taken by turns, as archive / twin.\n",
         SIZES[0],
         SIZES[SIZES.len() - 1]
     );
