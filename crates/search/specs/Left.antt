@@ -69,7 +69,7 @@ pub record Way (net : List ℕ) (t n u entry : ℕ) : Type 0 where
   pub inside : RunBehind n entry
   pub leads : (r : ℕ) → entry ≡ r + 1 → usable (bicycle net) t r ≡ edgeOf (bicycle net) t u r
 
--- Run r goes back where run u came from.
+-- Run r is usable and goes back where run u came from: it leaves where u arrives, by the leg of u's arrival.
 unfoldable pub turnsBack : List ℕ → ℕ → ℕ → ℕ → Bool
 turnsBack net t u r = eqb (start net r) (finish net u) && eqb (leavingLeg net r) (arrivalLeg net u) && usable (bicycle net) t r
 
