@@ -135,12 +135,12 @@ fn beside_parking() {
 
 fn bike_lanes_and_paths() {
     segment(
-        b"bike lane, 1 lane, 36 mph, reach 12, median:",
+        b"bike lane, 1 lane, 36 mph, reach 12:",
         Form::BikeLane {
             lanes: 1,
             speed: 36,
             reach: 12,
-            marks: 4,
+            marks: 0,
         },
     );
     segment(

@@ -15,15 +15,18 @@ use crate::trace::route_level;
 use queue::TOP;
 use streets::runs::segments_of;
 
+// What is told of a route: the number of its runs, its length in feet, and its level.
+pub struct Found {
+    pub count: usize,
+    pub length: u32,
+    pub level: u8,
+}
+
 pub enum Finding {
     // No route is within the tolerance.
     Nothing,
     // The route that was written.
-    Found {
-        count: usize,
-        length: u32,
-        level: u8,
-    },
+    Found(Found),
 }
 
 // Writes a shortest route within the tolerance into the buffer from the place on, where there is one.
@@ -41,12 +44,13 @@ pub fn find(
     requires { ⌜ (isNetwork (now net) ≡ true) × Indexed (cornersOf (now net)) (now index) × (from < nodesOf (now net)) × (to < nodesOf (now net)) × (1 ≤ tolerance) × (tolerance ≤ 4) × (runsOf (now net) ≤ length (now best)) × (runsOf (now net) ≤ length (now previous)) × (place + runsOf (now net) ≤ length (now buffer)) ⌝ }
     ensures { λ r. ⌜ Answered (bicycle (now (net .entry))) tolerance from to place (now (buffer .entry)) (now (buffer .exit)) r ⌝ }
 {
+    let stay = Found {
+        count: 0,
+        length: 0,
+        level: 1,
+    };
     if from == to {
-        return Finding::Found {
-            count: 0,
-            length: 0,
-            level: 1,
-        };
+        return Finding::Found(stay);
     }
     let n = 2 * segments_of(net);
     let t = tolerance as u8;
@@ -58,9 +62,10 @@ pub fn find(
     let count = count_runs(previous, n, last);
     let level = route_level(net, index, n, previous, last, count);
     fill(previous, n, last, count, &mut buffer[place..]);
-    Finding::Found {
+    let length = (key / 65536) as u32;
+    Finding::Found(Found {
         count,
-        length: (key / 65536) as u32,
+        length,
         level,
-    }
+    })
 }

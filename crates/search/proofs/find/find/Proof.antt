@@ -101,8 +101,8 @@ fill-requires c κs =
       K,
     )
 
-cast-t34 : tie.Need-cast-t34
-cast-t34 c = search needs
+cast-length : tie.Need-cast-length
+cast-length c = search needs
 
 same-length-3 : tie.Need-same-length-3
 same-length-3 c = search needs
@@ -148,7 +148,7 @@ find-spec =
     part-fill-start
     part-fill-end
     fill-requires
-    cast-t34
+    cast-length
     same-length-3
     same-length-4
     same-length-5
