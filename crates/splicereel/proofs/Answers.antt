@@ -13,17 +13,19 @@ use borrow.Author.Tests.{le-leb, lt-leb, leb-true, ltb-true}
 use Rattle.routes.proofs.Facts.{and-true, lt-or-ge}
 use Rattle.routes.specs.Streets.{Streets}
 use Rattle.routes.specs.Routes.{NoRoute}
+use Rattle.refusals.specs.declared.Refusal.the-variants.{NotANetwork, NoSuchNode, NoSuchTolerance, NoRoom}
 use Rattle.format.specs.Network.{nodesOf, isNetwork}
 use Rattle.streets.specs.Runs.{runsOf}
 use Rattle.streets.specs.Bicycle.{bicycle}
+use Rattle.search.specs.declared.find.Found.{Found as RouteTold}
 use Rattle.search.specs.declared.find.Finding.{Finding}
 use Rattle.search.specs.declared.find.Finding.the-variants.{Nothing, Found}
 use Rattle.search.specs.Answered.{Answered}
 use Rattle.search.proofs.Tolerance.{NoneUnder, none-under-one, none-under-more, least-written}
 use Rattle.splicereel.specs.declared.route.RouteAnswer.{RouteAnswer}
-use Rattle.splicereel.specs.declared.route.RouteAnswer.the-variants.{NotANetwork, NoSuchNode, NoSuchTolerance, NoRoom}
+use Rattle.splicereel.specs.declared.route.RouteAnswer.the-variants.{Refused}
 use Rattle.splicereel.specs.declared.least_stress.LeastAnswer.{LeastAnswer}
-use Rattle.splicereel.specs.declared.least_stress.LeastAnswer.the-variants.{NotANetwork, NoSuchNode, NoRoom, Nothing, Found}
+use Rattle.splicereel.specs.declared.least_stress.LeastAnswer.the-variants.{Refused, Nothing, Found}
 use Rattle.splicereel.specs.Finding.{nodesRefusal, fits, routeRefusal, leastStressRefusal}
 use Rattle.splicereel.specs.Promises.{Lent, lent, RoutePromise, LeastPromise, LeastFound}
 use Rattle.splicereel.specs.Steps.{answerOf, Rising}
@@ -87,23 +89,23 @@ tolerance-within t h =
 
 -- ---- Route
 module _ (net : List ℕ) (from to t place : ℕ) (before : Lent) where
-  pub route-no-network : isNetwork net ≡ false → RoutePromise net from to t place before before NotANetwork
+  pub route-no-network : isNetwork net ≡ false → RoutePromise net from to t place before before (Refused NotANetwork)
   unfolding routeRefusal nodesRefusal
   route-no-network is = record { refusal = rw is; holds = refl }
 
   module _ (is : isNetwork net ≡ true) {nodes : ℕ} (n : nodes ≡ nodesOf net) where
-    pub route-no-node : ltb from nodes && ltb to nodes ≡ false → RoutePromise net from to t place before before NoSuchNode
+    pub route-no-node : ltb from nodes && ltb to nodes ≡ false → RoutePromise net from to t place before before (Refused NoSuchNode)
     unfolding routeRefusal nodesRefusal
     route-no-node e = record { refusal = rw (is, ← n, e); holds = refl }
 
     module _ (known : ltb from nodes && ltb to nodes ≡ true) where
-      pub route-no-tolerance : leb 1 t && leb t 4 ≡ false → RoutePromise net from to t place before before NoSuchTolerance
+      pub route-no-tolerance : leb 1 t && leb t 4 ≡ false → RoutePromise net from to t place before before (Refused NoSuchTolerance)
       unfolding routeRefusal nodesRefusal
       route-no-tolerance e = record { refusal = rw (is, ← n, known, e); holds = refl }
 
       module _ (calm : leb 1 t && leb t 4 ≡ true) {runs : ℕ} (r : runs ≡ runsOf net) where
         pub route-no-room : fits runs place (length (before .best)) (length (before .previous)) (length (before .buffer)) ≡ false
-            → RoutePromise net from to t place before before NoRoom
+            → RoutePromise net from to t place before before (Refused NoRoom)
         unfolding routeRefusal nodesRefusal
         route-no-room e = record { refusal = rw (is, ← n, known, calm, ← r, e); holds = refl }
 
@@ -112,7 +114,7 @@ module _ (net : List ℕ) (from to t place : ℕ) (before : Lent) where
             → RoutePromise net from to t place before after (answerOf finding)
         unfolding routeRefusal nodesRefusal
         answers e after Nothing A = record { refusal = rw (is, ← n, known, calm, ← r, e); holds = (A .1, A .0) }
-        answers e after (Found count feet level) A = record { refusal = rw (is, ← n, known, calm, ← r, e); holds = A }
+        answers e after (Found route) A = record { refusal = rw (is, ← n, known, calm, ← r, e); holds = A }
 
         pub route-answers : fits runs place (length (before .best)) (length (before .previous)) (length (before .buffer)) ≡ true
             → {after : Lent} (finding : Finding) {answer : RouteAnswer} → answer ≡ answerOf finding
@@ -136,9 +138,9 @@ tried-none g a b before =
     record { low = omega arith; high = omega arith; same-best = refl; same-previous = refl; untouched = refl; none = none-under-one g a b }
 
 module _ {g : Streets} {a b t : ℕ} {before after : Lent} (T : Tried g a b t before after) (place : ℕ) {buffer : List ℕ} {finding : Finding} (l : t < 5) where
-  pub tried-found : {count feet level : ℕ} → finding ≡ Found count feet level → Answered g t a b place (after .buffer) buffer finding
-      → LeastFound g a b place (before .buffer) buffer count feet level t
-  tried-found {count} {feet} {level} e A =
+  pub tried-found : {route : RouteTold} → finding ≡ Found route → Answered g t a b place (after .buffer) buffer finding
+      → LeastFound g a b place (before .buffer) buffer (record { route = route; tolerance = t })
+  tried-found e A =
       let W = rw (T .untouched) at (subst (λ (f : Finding). Answered g t a b place (after .buffer) buffer f) e A) in
       record { smallest = least-written (T .low) (T .none) W; most = omega arith; drawn = W }
 
@@ -159,18 +161,18 @@ pub tried-all : {g : Streets} {a b t : ℕ} {before after : Lent} → Tried g a 
 tried-all T l = (T .none .none 4 (omega arith) (omega arith), T .untouched)
 
 module _ (net : List ℕ) (from to place : ℕ) (before : Lent) where
-  pub least-no-network : isNetwork net ≡ false → LeastPromise net from to place before before NotANetwork
+  pub least-no-network : isNetwork net ≡ false → LeastPromise net from to place before before (Refused NotANetwork)
   unfolding leastStressRefusal nodesRefusal
   least-no-network is = record { refusal = rw is; holds = refl }
 
   module _ (is : isNetwork net ≡ true) {nodes : ℕ} (n : nodes ≡ nodesOf net) where
-    pub least-no-node : ltb from nodes && ltb to nodes ≡ false → LeastPromise net from to place before before NoSuchNode
+    pub least-no-node : ltb from nodes && ltb to nodes ≡ false → LeastPromise net from to place before before (Refused NoSuchNode)
     unfolding leastStressRefusal nodesRefusal
     least-no-node e = record { refusal = rw (is, ← n, e); holds = refl }
 
     module _ (known : ltb from nodes && ltb to nodes ≡ true) {runs : ℕ} (r : runs ≡ runsOf net) where
       pub least-no-room : fits runs place (length (before .best)) (length (before .previous)) (length (before .buffer)) ≡ false
-          → LeastPromise net from to place before before NoRoom
+          → LeastPromise net from to place before before (Refused NoRoom)
       unfolding leastStressRefusal nodesRefusal
       least-no-room e = record { refusal = rw (is, ← n, known, ← r, e); holds = refl }
 
@@ -178,8 +180,6 @@ module _ (net : List ℕ) (from to place : ℕ) (before : Lent) where
           → {after : Lent} (answer : LeastAnswer) → Rising (bicycle net) from to place (before .buffer) (after .buffer) answer
           → LeastPromise net from to place before after answer
       unfolding leastStressRefusal nodesRefusal
-      least-answers e NotANetwork A = absurd A
-      least-answers e NoSuchNode A = absurd A
-      least-answers e NoRoom A = absurd A
+      least-answers e (Refused why) A = absurd A
       least-answers e Nothing A = record { refusal = rw (is, ← n, known, ← r, e); holds = A }
-      least-answers e (Found count feet level tolerance) A = record { refusal = rw (is, ← n, known, ← r, e); holds = A }
+      least-answers e (Found route tolerance) A = record { refusal = rw (is, ← n, known, ← r, e); holds = A }

@@ -12,22 +12,18 @@ ghost use Rattle.splicereel.specs.Steps.{Rising};
 use crate::route::has_room;
 use format::corners::no_corners;
 use format::network::is_network;
+use refusals::Refusal;
 use search::find::Finding;
+use search::find::Found;
 use search::find::find;
 use streets::runs::nodes_of;
 use streets::runs::segments_of;
 
 pub enum LeastAnswer {
-    NotANetwork,
-    NoSuchNode,
-    NoRoom,
+    Refused(Refusal),
+    // No route is within tolerance 4.
     Nothing,
-    Found {
-        count: usize,
-        length: u32,
-        level: u8,
-        tolerance: usize,
-    },
+    Found { found: Found, tolerance: usize },
 }
 
 // As `route`, at the smallest tolerance from 1 to 4 that has a route.
@@ -50,11 +46,11 @@ pub fn least_stress(
             if has_room(runs, place, best.len(), previous.len(), buffer.len()) {
                 return rising(net, &index, from, to, best, previous, buffer, place);
             }
-            return LeastAnswer::NoRoom;
+            return LeastAnswer::Refused(Refusal::NoRoom);
         }
-        return LeastAnswer::NoSuchNode;
+        return LeastAnswer::Refused(Refusal::NoSuchNode);
     }
-    LeastAnswer::NotANetwork
+    LeastAnswer::Refused(Refusal::NotANetwork)
 }
 
 // Tries the tolerances from 1 on.
@@ -74,15 +70,9 @@ fn rising(
     let mut t = 1;
     while t < 5 {
         let finding = find(net, index, from, to, t, best, previous, buffer, place);
-        if let Finding::Found {
-            count,
-            length,
-            level,
-        } = finding {
+        if let Finding::Found(found) = finding {
             return LeastAnswer::Found {
-                count,
-                length,
-                level,
+                found,
                 tolerance: t,
             };
         }

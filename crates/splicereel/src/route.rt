@@ -5,23 +5,18 @@ ghost use Rattle.splicereel.specs.Promises.{lent, RoutePromise};
 ghost use Rattle.splicereel.specs.Steps.{answerOf};
 use format::corners::no_corners;
 use format::network::is_network;
+use refusals::Refusal;
 use search::find::Finding;
+use search::find::Found;
 use search::find::find;
 use streets::runs::nodes_of;
 use streets::runs::segments_of;
 
 pub enum RouteAnswer {
-    NotANetwork,
-    NoSuchNode,
-    NoSuchTolerance,
-    // Lent slices that are too short, or a place beyond the buffer's end.
-    NoRoom,
+    Refused(Refusal),
+    // No route is within the tolerance.
     Nothing,
-    Found {
-        count: usize,
-        length: u32,
-        level: u8,
-    },
+    Found(Found),
 }
 
 // The lent slices have room for a number for each run, the buffer from the place on.
@@ -66,13 +61,13 @@ pub fn route(
                         place,
                     ));
                 }
-                return RouteAnswer::NoRoom;
+                return RouteAnswer::Refused(Refusal::NoRoom);
             }
-            return RouteAnswer::NoSuchTolerance;
+            return RouteAnswer::Refused(Refusal::NoSuchTolerance);
         }
-        return RouteAnswer::NoSuchNode;
+        return RouteAnswer::Refused(Refusal::NoSuchNode);
     }
-    RouteAnswer::NotANetwork
+    RouteAnswer::Refused(Refusal::NotANetwork)
 }
 
 fn answered(finding: Finding) -> RouteAnswer
@@ -80,14 +75,6 @@ fn answered(finding: Finding) -> RouteAnswer
 {
     match finding {
         Finding::Nothing => RouteAnswer::Nothing,
-        Finding::Found {
-            count,
-            length,
-            level,
-        } => RouteAnswer::Found {
-            count,
-            length,
-            level,
-        },
+        Finding::Found(found) => RouteAnswer::Found(found),
     }
 }
