@@ -13,6 +13,7 @@ use Rattle.routes.specs.Streets.{Streets}
 use Rattle.routes.specs.Routes.{Open, Movement, After, Route}
 use Rattle.streets.specs.Runs.{isOpen}
 use Rattle.streets.specs.Bicycle.{bicycle, movementLevel}
+use Rattle.search.specs.declared.find.Found.{Found as FoundRoute}
 use Rattle.search.specs.Trace.{Written}
 use Rattle.splicereel.specs.declared.judge.MovementAnswer.{MovementAnswer}
 use Rattle.splicereel.specs.declared.judge.MovementAnswer.the-variants.{Level}
@@ -73,22 +74,22 @@ module _ (net : List ℕ) (p q : ℕ) (is : isNetwork net ≡ true) (M : Movemen
 
 -- ---- a route that is found
 -- it stands at the front of the buffer
-front : {g : Streets} {t a b count feet level : ℕ} {before after : List ℕ} → Written g t a b 0 before after count feet level
-    → (count ≤ length after) × Route g a b (take count after)
-front {g} {t} {a} {b} {count} {feet} {level} {before} {after} W =
+front : {g : Streets} {t a b : ℕ} {before after : List ℕ} {told : FoundRoute} → Written g t a b 0 before after told
+    → (told .count ≤ length after) × Route g a b (take (told .count) after)
+front {g} {t} {a} {b} {before} {after} {told} W =
     let text : after ≡ W .runs ++ drop (0 + length (W .runs)) before = W .text in
-    let is : take count after ≡ W .runs = rw text (take-at (W .runs) (drop (0 + length (W .runs)) before) count (W .counted)) in (
+    let is : take (told .count) after ≡ W .runs = rw text (take-at (W .runs) (drop (0 + length (W .runs)) before) (told .count) (W .counted)) in (
       omega (arith, W .counted, ap length text, length-append (W .runs) (drop (0 + length (W .runs)) before)),
       rw is (W .shortest .within .route),
     )
 
-module _ {net : List ℕ} {from to : ℕ} {before after : Lent} {count feet level : ℕ} where
-  pub route-front : {t : ℕ} {answer : RouteAnswer} → answer ≡ Found count feet level → RoutePromise net from to t 0 before after answer
-      → (count ≤ length (after .buffer)) × Route (bicycle net) from to (take count (after .buffer))
+module _ {net : List ℕ} {from to : ℕ} {before after : Lent} {route : FoundRoute} where
+  pub route-front : {t : ℕ} {answer : RouteAnswer} → answer ≡ Found route → RoutePromise net from to t 0 before after answer
+      → (route .count ≤ length (after .buffer)) × Route (bicycle net) from to (take (route .count) (after .buffer))
   route-front {t} {answer} e P =
       front (subst (λ (y : RouteAnswer). RoutePromise net from to t 0 before after y) e P .holds)
 
-  pub least-front : {t : ℕ} {answer : LeastAnswer} → answer ≡ Found count feet level t → LeastPromise net from to 0 before after answer
-      → (count ≤ length (after .buffer)) × Route (bicycle net) from to (take count (after .buffer))
+  pub least-front : {t : ℕ} {answer : LeastAnswer} → answer ≡ Found route t → LeastPromise net from to 0 before after answer
+      → (route .count ≤ length (after .buffer)) × Route (bicycle net) from to (take (route .count) (after .buffer))
   least-front {t} {answer} e P =
       front (subst (λ (y : LeastAnswer). LeastPromise net from to 0 before after y) e P .holds .drawn)

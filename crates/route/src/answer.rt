@@ -19,7 +19,6 @@ use crate::text::put_number;
 use format::ReadAnswer;
 use splicereel::least_stress::LeastAnswer;
 use splicereel::least_stress::least_stress;
-use splicereel::read::number_of;
 use splicereel::route::RouteAnswer;
 use splicereel::route::route;
 
@@ -48,11 +47,7 @@ pub fn answer(text: &[u8], from: usize, to: usize, limit: Limit, page: &mut [u8;
 {
     let mut net = room();
     match splicereel::read::read(text, &mut net) {
-        ReadAnswer::Refused { fault, line } => put_refused_line(
-            number_of(fault) as usize,
-            line,
-            page,
-        ),
+        ReadAnswer::Refused { refusal, line } => put_refused_line(refusal, line, page),
         ReadAnswer::Kept(count) => ask(&net[..count], from, to, limit, page),
     }
 }
@@ -84,26 +79,22 @@ fn ask_route(net: &[u8], from: usize, to: usize, tolerance: usize, page: &mut [u
         &mut buffer,
         0,
     ) {
-        RouteAnswer::NotANetwork => put_refused(8, page),
-        RouteAnswer::NoSuchNode => put_refused(9, page),
-        RouteAnswer::NoSuchTolerance => put_refused(10, page),
-        RouteAnswer::NoRoom => put_refused(11, page),
+        RouteAnswer::Refused(refusal) => put_refused(refusal, page),
         RouteAnswer::Nothing => put_none(from, to, tolerance, page),
-        RouteAnswer::Found {
-            count,
-            length,
-            level,
-        } => put_found(
-            net,
-            from,
-            to,
-            tolerance,
-            b"\n",
-            &buffer[..count],
-            length,
-            level,
-            page,
-        ),
+        RouteAnswer::Found(found) => {
+            let count = found.count;
+            put_found(
+                net,
+                from,
+                to,
+                tolerance,
+                b"\n",
+                &buffer[..count],
+                found.length,
+                found.level,
+                page,
+            )
+        }
     }
 }
 
@@ -115,26 +106,22 @@ fn ask_least(net: &[u8], from: usize, to: usize, page: &mut [u8; PAGE]) -> usize
     let mut previous = scratch();
     let mut buffer = route_buffer();
     match least_stress(net, from, to, &mut best, &mut previous, &mut buffer, 0) {
-        LeastAnswer::NotANetwork => put_refused(8, page),
-        LeastAnswer::NoSuchNode => put_refused(9, page),
-        LeastAnswer::NoRoom => put_refused(11, page),
+        LeastAnswer::Refused(refusal) => put_refused(refusal, page),
         LeastAnswer::Nothing => put_unlinked(from, to, page),
-        LeastAnswer::Found {
-            count,
-            length,
-            level,
-            tolerance,
-        } => put_found(
-            net,
-            from,
-            to,
-            tolerance,
-            b", the least that has a route\n",
-            &buffer[..count],
-            length,
-            level,
-            page,
-        ),
+        LeastAnswer::Found { found, tolerance } => {
+            let count = found.count;
+            put_found(
+                net,
+                from,
+                to,
+                tolerance,
+                b", the least that has a route\n",
+                &buffer[..count],
+                found.length,
+                found.level,
+                page,
+            )
+        }
     }
 }
 

@@ -14,6 +14,8 @@ use crate::text::put_number;
 use crate::text::put_right;
 use crate::words::put_measure;
 use crate::words::put_refusal;
+use refusals::Refusal;
+use refusals::number_of;
 use splicereel::judge::MovementAnswer;
 use splicereel::judge::judge_movement;
 use streets::runs::feet_of;
@@ -103,9 +105,7 @@ fn corner_level(net: &[u8], first: usize, second: usize) -> u8
 {
     match judge_movement(net, first, second) {
         MovementAnswer::Level(level) => level,
-        MovementAnswer::NotANetwork => 0,
-        MovementAnswer::NoOpenRun => 0,
-        MovementAnswer::NoMovement => 0,
+        MovementAnswer::Refused(_) => 0,
     }
 }
 
@@ -186,37 +186,37 @@ pub fn put_summary(count: usize, feet: u32, level: u8, place: usize, page: &mut 
     put(b"\n", at, page)
 }
 
-fn put_refused_number(number: usize, place: usize, page: &mut [u8; PAGE]) -> usize
+fn put_refused_number(refusal: Refusal, place: usize, page: &mut [u8; PAGE]) -> usize
     requires { ⌜ place + 36 ≤ pageSize ⌝ }
     ensures { λ r. ⌜ r ≤ place + 36 ⌝ }
 {
     let at = put(b"Refused, number ", place, page);
-    put_number(number, at, page)
+    put_number(number_of(refusal) as usize, at, page)
 }
 
-fn put_meaning(number: usize, place: usize, page: &mut [u8; PAGE]) -> usize
+fn put_meaning(refusal: Refusal, place: usize, page: &mut [u8; PAGE]) -> usize
     requires { ⌜ place + 103 ≤ pageSize ⌝ }
     ensures { λ r. ⌜ r ≤ place + 103 ⌝ }
 {
     let mut at = put(b": ", place, page);
-    at = put_refusal(number, at, page);
+    at = put_refusal(refusal, at, page);
     put(b"\n", at, page)
 }
 
 // A refusal of a call on a network.
-pub fn put_refused(number: usize, page: &mut [u8; PAGE]) -> usize
+pub fn put_refused(refusal: Refusal, page: &mut [u8; PAGE]) -> usize
     ensures { λ r. ⌜ r ≤ pageSize ⌝ }
 {
-    let at = put_refused_number(number, 0, page);
-    put_meaning(number, at, page)
+    let at = put_refused_number(refusal, 0, page);
+    put_meaning(refusal, at, page)
 }
 
 // A refusal of Read, with its line.
-pub fn put_refused_line(number: usize, line: usize, page: &mut [u8; PAGE]) -> usize
+pub fn put_refused_line(refusal: Refusal, line: usize, page: &mut [u8; PAGE]) -> usize
     ensures { λ r. ⌜ r ≤ pageSize ⌝ }
 {
-    let mut at = put_refused_number(number, 0, page);
+    let mut at = put_refused_number(refusal, 0, page);
     at = put(b", line ", at, page);
     at = put_number(line, at, page);
-    put_meaning(number, at, page)
+    put_meaning(refusal, at, page)
 }

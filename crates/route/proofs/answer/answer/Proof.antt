@@ -16,14 +16,8 @@ slice-aggregate-read c = search needs
 read-requires : tie.Need-read-requires
 read-requires c κs = search needs
 
-enum-known-fault : tie.Need-enum-known-fault
-enum-known-fault c = search needs
-
-number-of-requires : tie.Need-number-of-requires
-number-of-requires c κs = search needs
-
-cast-put-refused-line : tie.Need-cast-put-refused-line
-cast-put-refused-line c = search needs
+enum-known-refusal : tie.Need-enum-known-refusal
+enum-known-refusal c = search needs
 
 put-refused-line-requires : tie.Need-put-refused-line-requires
 put-refused-line-requires c κs = search needs
@@ -56,9 +50,7 @@ answer-spec =
     room-requires
     slice-aggregate-read
     read-requires
-    enum-known-fault
-    number-of-requires
-    cast-put-refused-line
+    enum-known-refusal
     put-refused-line-requires
     enum-known-count
     array-share-prefix-net

@@ -29,38 +29,20 @@ slice-aggregate-route-3 c = search needs
 route-requires : tie.Need-route-requires
 route-requires c κs = search needs
 
-enum-told : tie.Need-enum-told
-enum-told c = search needs
+enum-known-refusal : tie.Need-enum-known-refusal
+enum-known-refusal c = search needs
 
 put-refused-requires : tie.Need-put-refused-requires
 put-refused-requires c κs = search needs
 
-enum-told-2 : tie.Need-enum-told-2
-enum-told-2 c = search needs
-
-put-refused-requires-2 : tie.Need-put-refused-requires-2
-put-refused-requires-2 c κs = search needs
-
-enum-told-3 : tie.Need-enum-told-3
-enum-told-3 c = search needs
-
-put-refused-requires-3 : tie.Need-put-refused-requires-3
-put-refused-requires-3 c κs = search needs
-
-enum-told-4 : tie.Need-enum-told-4
-enum-told-4 c = search needs
-
-put-refused-requires-4 : tie.Need-put-refused-requires-4
-put-refused-requires-4 c κs = search needs
-
-enum-told-5 : tie.Need-enum-told-5
-enum-told-5 c = search needs
+enum-told : tie.Need-enum-told
+enum-told c = search needs
 
 put-none-requires : tie.Need-put-none-requires
 put-none-requires c κs = search needs
 
-enum-known-count : tie.Need-enum-known-count
-enum-known-count c = search needs
+enum-known-found : tie.Need-enum-known-found
+enum-known-found c = search needs
 
 slice-aggregate-put-found : tie.Need-slice-aggregate-put-found
 slice-aggregate-put-found c = search needs
@@ -68,22 +50,22 @@ slice-aggregate-put-found c = search needs
 array-share-prefix-buffer : tie.Need-array-share-prefix-buffer
 array-share-prefix-buffer c =
     let after-route = c .before .before .before .before .before .before .before in
-    route-front (c .before .before .count .given .1) (after-route .route .ensures) .0
+    route-front (c .before .before .found .given .1) (after-route .route .ensures) .0
 
 slice-aggregate-put-found-2 : tie.Need-slice-aggregate-put-found-2
 slice-aggregate-put-found-2 c =
-    let after-count = c .before .before .before in
-    let after-route = after-count .before .before .before .before .before in
+    let after-found = c .before .before .before in
+    let after-route = after-found .before .before .before .before .before in
     sym
-    (length-take-le (after-count .count .given .0 .0) (after-route .route .last .1 .1 .1 .1 .1 .1 .0) (route-front (after-count .count .given .1) (after-route .route .ensures) .0))
+    (length-take-le (after-found .found .given .0 .0 .count) (after-route .route .last .1 .1 .1 .1 .1 .1 .0) (route-front (after-found .found .given .1) (after-route .route .ensures) .0))
 
 put-found-requires : tie.Need-put-found-requires
 put-found-requires c κs =
-    let after-count = c .before .before .before .before in
-    let after-route = after-count .before .before .before .before .before in
+    let after-found = c .before .before .before .before in
+    let after-route = after-found .before .before .before .before .before in
     let after-route-buffer = after-route .before .before .before .before in
     let start = after-route-buffer .before .before .before .before in
-    (start .pre, search needs, omega (arith, route-front (after-count .count .given .1) (after-route .route .ensures) .0, length-take-le (after-count .count .given .0 .0) (after-route .route .last .1 .1 .1 .1 .1 .1 .0) (route-front (after-count .count .given .1) (after-route .route .ensures) .0), after-route .route .kept .1 .1 .1 .1 .1 .1 .0, after-route-buffer .route-buffer .ensures), route-front (after-count .count .given .1) (after-route .route .ensures) .1)
+    (start .pre, search needs, omega (arith, route-front (after-found .found .given .1) (after-route .route .ensures) .0, length-take-le (after-found .found .given .0 .0 .count) (after-route .route .last .1 .1 .1 .1 .1 .1 .0) (route-front (after-found .found .given .1) (after-route .route .ensures) .0), after-route .route .kept .1 .1 .1 .1 .1 .1 .0, after-route-buffer .route-buffer .ensures), route-front (after-found .found .given .1) (after-route .route .ensures) .1)
 
 returns : tie.Need-returns
 returns c = search needs
@@ -93,15 +75,6 @@ returns-2 c = search needs
 
 returns-3 : tie.Need-returns-3
 returns-3 c = search needs
-
-returns-4 : tie.Need-returns-4
-returns-4 c = search needs
-
-returns-5 : tie.Need-returns-5
-returns-5 c = search needs
-
-returns-6 : tie.Need-returns-6
-returns-6 c = search needs
 
 pub ask-route-spec : {M : Type 1} → statement M
 ask-route-spec =
@@ -114,24 +87,15 @@ ask-route-spec =
     slice-aggregate-route-2
     slice-aggregate-route-3
     route-requires
-    enum-told
+    enum-known-refusal
     put-refused-requires
-    enum-told-2
-    put-refused-requires-2
-    enum-told-3
-    put-refused-requires-3
-    enum-told-4
-    put-refused-requires-4
-    enum-told-5
+    enum-told
     put-none-requires
-    enum-known-count
+    enum-known-found
     slice-aggregate-put-found
     array-share-prefix-buffer
     slice-aggregate-put-found-2
     put-found-requires
     returns
     returns-2
-    returns-3
-    returns-4
-    returns-5
-    returns-6)
+    returns-3)

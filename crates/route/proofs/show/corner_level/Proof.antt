@@ -1,6 +1,7 @@
 -- `route::show::corner_level` meets its contract: Judge a movement tells the level of a movement, and refuses none.
 -- Assumes nothing.
 use mathlib.Core.Path.{ap}
+use Rattle.refusals.specs.Numbers.{numberOf}
 use Rattle.splicereel.specs.Judge.{toldMovement}
 use Rattle.route.proofs.Riding.{told-level, not-refused}
 use borrow.Author.Needs.{needs}
@@ -16,12 +17,6 @@ enum-known-level c = search needs
 enum-told : tie.Need-enum-told
 enum-told c = search needs
 
-enum-told-2 : tie.Need-enum-told-2
-enum-told-2 c = search needs
-
-enum-told-3 : tie.Need-enum-told-3
-enum-told-3 c = search needs
-
 returns : tie.Need-returns
 returns c =
     let after-judge-movement = c .before .before .before in
@@ -35,32 +30,8 @@ returns-2 c =
     let after-before = c .before .before .before in
     let start = after-before .before in
     absurd
-    (not-refused (start .args .net .now) (start .args .first) (start .args .second) (start .pre .0) (start .pre .1) 8 (ap toldMovement (c .enum-told .given .1)) (c .before .before .judge-movement .ensures))
-
-returns-3 : tie.Need-returns-3
-returns-3 c =
-    let after-before = c .before .before .before in
-    let start = after-before .before in
-    absurd
-    (not-refused (start .args .net .now) (start .args .first) (start .args .second) (start .pre .0) (start .pre .1) 12 (ap toldMovement (c .enum-told2 .given .1)) (c .before .before .judge-movement .ensures))
-
-returns-4 : tie.Need-returns-4
-returns-4 c =
-    let after-before = c .before .before .before in
-    let start = after-before .before in
-    absurd
-    (not-refused (start .args .net .now) (start .args .first) (start .args .second) (start .pre .0) (start .pre .1) 13 (ap toldMovement (c .enum-told3 .given .1)) (c .before .before .judge-movement .ensures))
+    (not-refused (start .args .net .now) (start .args .first) (start .args .second) (start .pre .0) (start .pre .1) (numberOf (c .enum-told .given .0 .0)) (ap toldMovement (c .enum-told .given .1)) (c .before .before .judge-movement .ensures))
 
 pub corner-level-spec : {M : Type 1} → statement M
 corner-level-spec =
-    tie.close
-    (tie.spec
-    judge-movement-requires
-    enum-known-level
-    enum-told
-    enum-told-2
-    enum-told-3
-    returns
-    returns-2
-    returns-3
-    returns-4)
+    tie.close (tie.spec judge-movement-requires enum-known-level enum-told returns returns-2)
