@@ -3,6 +3,9 @@
 // last five lines are refusals 11, 8 and, for a short scratch, 11. Which of several shortest routes is drawn is free,
 // so only lengths are printed.
 use format::ReadAnswer;
+use refusals::Refusal;
+use refusals::number_of;
+use search::find::Found;
 use splicereel::least_stress::LeastAnswer;
 use splicereel::route::RouteAnswer;
 
@@ -50,15 +53,15 @@ fn runs_same(numbers: &[u16]) -> bool {
     true
 }
 
-fn found(length: u32) {
+fn found(route: Found) {
     io::write_all(OUT, b"found ");
-    io::print_decimal(OUT, length as u64);
+    io::print_decimal(OUT, route.length as u64);
 }
 
 // A refusal's number, and whether what was lent came back as it was.
-fn refused(number: usize, best: &[u32], previous: &[u32], buffer: &[u16]) {
+fn refused(refusal: Refusal, best: &[u32], previous: &[u32], buffer: &[u16]) {
     io::write_all(OUT, b"refused ");
-    put(number);
+    put(number_of(refusal) as usize);
     if scratch_same(best) & scratch_same(previous) & runs_same(buffer) {
         io::write_all(OUT, b"untouched");
     } else {
@@ -91,16 +94,9 @@ fn show_route(net: &[u8], from: usize, to: usize, tolerance: usize, place: usize
         &mut buffer,
         place,
     ) {
-        RouteAnswer::NotANetwork => refused(8, &best, &previous, &buffer),
-        RouteAnswer::NoSuchNode => refused(9, &best, &previous, &buffer),
-        RouteAnswer::NoSuchTolerance => refused(10, &best, &previous, &buffer),
-        RouteAnswer::NoRoom => refused(11, &best, &previous, &buffer),
+        RouteAnswer::Refused(refusal) => refused(refusal, &best, &previous, &buffer),
         RouteAnswer::Nothing => none(&buffer),
-        RouteAnswer::Found {
-            count: _,
-            length,
-            level: _,
-        } => found(length),
+        RouteAnswer::Found(route) => found(route),
     }
     io::write_all(OUT, b"\n");
 }
@@ -121,17 +117,13 @@ fn show_least(net: &[u8], from: usize, to: usize, place: usize) {
         &mut buffer,
         place,
     ) {
-        LeastAnswer::NotANetwork => refused(8, &best, &previous, &buffer),
-        LeastAnswer::NoSuchNode => refused(9, &best, &previous, &buffer),
-        LeastAnswer::NoRoom => refused(11, &best, &previous, &buffer),
+        LeastAnswer::Refused(refusal) => refused(refusal, &best, &previous, &buffer),
         LeastAnswer::Nothing => none(&buffer),
         LeastAnswer::Found {
-            count: _,
-            length,
-            level: _,
+            found: route,
             tolerance,
         } => {
-            found(length);
+            found(route);
             io::write_all(OUT, b" ");
             io::print_decimal(OUT, tolerance as u64);
         }
@@ -154,13 +146,9 @@ fn show_short(net: &[u8]) {
     let mut previous = scratch();
     let mut buffer = runs();
     match splicereel::route::route(net, 0, 0, 1, &mut best, &mut previous, &mut buffer, PLACE) {
-        RouteAnswer::NoRoom => refused(11, &best, &previous, &buffer),
-        RouteAnswer::Found {
-            count: _,
-            length,
-            level: _,
-        } => found(length),
-        _ => none(&buffer),
+        RouteAnswer::Refused(refusal) => refused(refusal, &best, &previous, &buffer),
+        RouteAnswer::Nothing => none(&buffer),
+        RouteAnswer::Found(route) => found(route),
     }
     io::write_all(OUT, b"\n");
 }
@@ -195,7 +183,10 @@ fn main() {
     let count = io::read_full(0, &mut text);
     let mut net = io::large_buffer();
     match splicereel::read::read(&text[..count], &mut net) {
-        ReadAnswer::Refused { fault: _, line: _ } => {
+        ReadAnswer::Refused {
+            refusal: _,
+            line: _,
+        } => {
             io::write_all(OUT, b"not read\n");
         }
         ReadAnswer::Kept(kept) => show_all(&net[..kept]),
