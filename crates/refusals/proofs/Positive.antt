@@ -1,6 +1,5 @@
 -- No refusal has the number 0, which stands for none: each case by its number.
 -- Assumes nothing.
-use Prim.Native.Nat.{ℕ}
 use native.Mathlib.Omega.{arith}
 use mathlib.Core.Path.{_≡_}
 use Rattle.refusals.specs.declared.Refusal.{Refusal}

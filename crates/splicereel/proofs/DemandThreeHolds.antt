@@ -3,18 +3,17 @@
 -- higher u, so u has one at most as long. Least stress names the smallest tolerance that has a route: Route says none below it, and at it finds one
 -- just as long. A run has at least one foot, so a shortest route from a node to itself has none.
 -- Assumes nothing.
-use Prim.Native.Nat.{ℕ, _+_, _≤_, _<_}
+use Prim.Native.Nat.{ℕ, _+_, _≤_}
 use native.Mathlib.Omega.{arith}
 use mathlib.Core.Path.{_≡_, refl, sym, _∙_, subst}
 use mathlib.Core.Bool.{true}
 use mathlib.Core.List.{List, [], _∷_}
 use mathlib.Core.Logic.{_↔_}
-use lib.Dec.{leb, ltb}
 use lib.ListN.{length}
 use borrow.Author.Tests.{le-leb, lt-ltb}
 use Rattle.refusals.proofs.Positive.{positive}
 use Rattle.routes.specs.Streets.{Streets}
-use Rattle.routes.specs.Routes.{lengthOf, levelOf, Within, Shortest, NoRoute}
+use Rattle.routes.specs.Routes.{lengthOf, Within, NoRoute}
 use Rattle.routes.proofs.Tolerance.{exists-rises, none-falls, shortest-falls, shortest-same-length}
 use Rattle.format.specs.Network.{nodesOf, isNetwork}
 use Rattle.streets.specs.Runs.{runsOf}
@@ -27,8 +26,8 @@ use Rattle.splicereel.specs.declared.route.RouteAnswer.the-variants.{Ref
 use Rattle.splicereel.specs.declared.least_stress.LeastAnswer.{LeastAnswer}
 use Rattle.splicereel.specs.declared.least_stress.LeastAnswer.the-variants.{Refused, Nothing, Found as LeastFinding}
 use Rattle.splicereel.specs.Finding.{nodesRefusal, fits, routeRefusal, leastStressRefusal}
-use Rattle.splicereel.specs.Promises.{Lent, Told, refused, none, found, refusalIn, LeastRoute, LeastFound}
-use Rattle.splicereel.specs.Promises.{toldRoute, RouteHolds, RoutePromise, toldLeast, LeastHolds, LeastPromise}
+use Rattle.splicereel.specs.Promises.{Lent, Told, none, found, refusalIn, LeastRoute, LeastFound}
+use Rattle.splicereel.specs.Promises.{toldRoute, RouteHolds, toldLeast, LeastHolds}
 use Rattle.splicereel.specs.DemandThree.{InOrder, RouteCall, LeastCall, Finds, SomeRoute, Stands, OfRoute, OfLeast, Agree, DemandThree}
 
 -- ---- what an answer that is no refusal is

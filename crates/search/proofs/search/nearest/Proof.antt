@@ -1,7 +1,6 @@
 -- The queue is empty and nothing is known of any node: so the search may begin.
 -- Assumes nothing.
 use Rattle.search.proofs.TownLaws.{few-runs}
-use native.Mathlib.Omega.{arith}
 use borrow.Author.Needs.{needs}
 use Rattle.search.proofs.search.nearest.Statement.{statement}
 use Rattle.search.proofs.search.nearest.Tie as tie

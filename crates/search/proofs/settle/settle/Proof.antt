@@ -4,7 +4,6 @@
 use Rattle.search.proofs.Queueing.{settling-begins, settling-ends}
 use Rattle.search.proofs.TownLaws.{run-of, fair}
 use Rattle.search.proofs.LeftLaws.{spread-all, spread-only}
-use native.Mathlib.Omega.{arith}
 use borrow.Author.Needs.{needs}
 use Rattle.search.proofs.settle.settle.Statement.{statement}
 use Rattle.search.proofs.settle.settle.Tie as tie
