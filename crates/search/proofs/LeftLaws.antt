@@ -24,16 +24,16 @@ use Rattle.streets.specs.Bicycle.{bicycle}
 use Rattle.streets.proofs.ExitLaws.{exit-below}
 use Rattle.streets.proofs.MovementLaws.{exit-is}
 use Rattle.search.specs.Leaving.{Entry}
-use Rattle.search.specs.Relax.{Offer, Relaxed}
+use Rattle.search.specs.Relax.{Visit, kept, barred, labelled, Offer, free, leads, Relaxed}
 use Rattle.search.specs.Begin.{firstLabel, Begun}
 use Rattle.search.specs.Search.{arrivesAt, Spent, Settling}
 use Rattle.search.specs.Town.{mostRunFeet, Town, townGraph, usable}
-use Rattle.search.specs.Left.{nothing, Unknown, Left, spentOf, Noted, Arrives, EveryExit, RightOnly, RunBehind, toUsable, Way, turnsBack, leadsOf, Spread}
-use Rattle.search.proofs.Queueing.{settling-spent}
+use Rattle.search.specs.Left.{nothing, Unknown, Left, spentOf, Noted, Arrives, EveryExit, RightOnly, RunBehind, toEach, Way, turnsBack, leadsOf, Spread}
+use Rattle.search.proofs.Queueing.{settling-spent, settling-without}
 use Rattle.search.proofs.Exits.{offer-as, relaxed-one, relaxed-as, relaxed-both}
 use Rattle.search.proofs.LeavingLaws.{node-small, start-below, leaving-below, entry-leaves, leaving-at, back-ends}
 use Rattle.search.proofs.TownLaws.{run-of, fair, run-behind}
-use Rattle.search.proofs.TestLaws.{source-usable, edge-onward, turns-back, back-usable, right-by, every-edge, way-every, way-right}
+use Rattle.search.proofs.TestLaws.{source-usable, edge-onward, turns-back, is-back, right-by, every-edge, way-every, way-right}
 
 -- a run that arrives where nothing is left
 pub spent-at : (net left : List ℕ) (r : ℕ) {node : ℕ} → node ≡ finish net r → nothing ≤ at left node → spentOf net left r ≡ true
@@ -55,8 +55,8 @@ module _ (net : List ℕ) (t : ℕ) (back : Bool) (u r : ℕ) where
   leads-edge : edgeOf (bicycle net) t u r ≡ true → leadsOf net t back u r ≡ true
   leads-edge e = rw e
 
-  leads-back : back ≡ true → turnsBack net t u r ≡ true → leadsOf net t back u r ≡ true
-  leads-back b e = or-right (edgeOf (bicycle net) t u r) (true-and back (turnsBack net t u r) b e)
+  leads-back : back ≡ true → turnsBack net u r ≡ true → leadsOf net t back u r ≡ true
+  leads-back b e = or-right (edgeOf (bicycle net) t u r) (true-and back (turnsBack net u r) b e)
 
 -- no way back is relaxed
 pub spread-edges : {net : List ℕ} {t n u base : ℕ} {best previous left best′ previous′ tree′ left′ : List ℕ}
@@ -86,10 +86,10 @@ module _ {net : List ℕ} {t n u base : ℕ} {best previous left best′ previou
   spread-only r l e =
       ⊎-elim
       (λ (s : edgeOf (bicycle net) t u r ≡ true). inl s)
-      (λ (s : S .back && turnsBack net t u r ≡ true).
-      let h = and-true (S .back) (turnsBack net t u r) s in
+      (λ (s : S .back && turnsBack net u r ≡ true).
+      let h = and-true (S .back) (turnsBack net u r) s in
       inr (S .only r l (h .0) (h .1)))
-      (or-true (edgeOf (bicycle net) t u r) (S .back && turnsBack net t u r) e)
+      (or-true (edgeOf (bicycle net) t u r) (S .back && turnsBack net u r) e)
 
 module _ {net : List ℕ} {n : ℕ} (T : Town net n) where
   -- at first every usable run that leaves the start has its label, and nothing is left there
@@ -230,10 +230,8 @@ module _ {net : List ℕ} {n : ℕ} (T : Town net n) where
           (λ (z : at left (start net r) ≡ leavingLeg net r + 1). apart (omega arith))))
 
       -- it is labelled as the way back
-      noted-back : ((r : ℕ) → turnsBack net t u r ≡ true → leads u r ≡ true) → Noted net t n u best′ left (set left node nothing)
-      noted-back too =
-          noted-nothing
-          (λ r l s from j. reached r l (too r (sym (back-usable net t u r (from ∙ A .at-node .is) (j ∙ A .by-leg .is)) ∙ s)))
+      noted-back : ((r : ℕ) → turnsBack net u r ≡ true → leads u r ≡ true) → Noted net t n u best′ left (set left node nothing)
+      noted-back too = noted-nothing (λ r l s from j. reached r l (too r (sym (is-back net u r (from ∙ A .at-node .is) (j ∙ A .by-leg .is)))))
 
   -- ---- at which entries the edges from u lead on
   module _ {index : List ℕ} {u node leg : ℕ} (I : Indexed (cornersOf net) index) (A : Arrives net u node leg) where
@@ -277,41 +275,55 @@ module _ {net : List ℕ} {n : ℕ} (T : Town net n) where
     pub back-behind : RunBehind n (at index (node * 8 + leg))
     back-behind = run-behind T (entry-at (A .by-leg .below))
 
-    back-at : (t r : ℕ) → r < n → turnsBack net t u r ≡ true → at index (node * 8 + leg) ≡ r + 1
-    back-at t r l e =
-        let B = turns-back net t u r e in
+    back-at : (r : ℕ) → r < n → turnsBack net u r ≡ true → at index (node * 8 + leg) ≡ r + 1
+    back-at r l e =
+        let B = turns-back net u r e in
         leaving-at net (T .network) I (run-of T l) (B .from ∙ sym (A .at-node .is)) (B .by ∙ sym (A .by-leg .is))
 
-    back-offer : (t r : ℕ) → at index (node * 8 + leg) ≡ r + 1 → usable (bicycle net) t r ≡ turnsBack net t u r
-    back-offer t r e =
+    back-offer : (r : ℕ) → at index (node * 8 + leg) ≡ r + 1 → toEach u r ≡ turnsBack net u r
+    back-offer r e =
         let E = entry-at (A .by-leg .below) .leaving r e in
-        back-usable net t u r (E .from ∙ A .at-node .is) (E .by ∙ A .by-leg .is)
+        is-back net u r (E .from ∙ A .at-node .is) (E .by ∙ A .by-leg .is)
 
     -- it ends where u began: where nothing is left there, it is spent
-    back-spent : (t : ℕ) (left : List ℕ) {came : ℕ} → u < n → came ≡ start net u → nothing ≤ at left came → (r : ℕ) → r < n → turnsBack net t u r ≡ true
+    back-spent : (left : List ℕ) {came : ℕ} → u < n → came ≡ start net u → nothing ≤ at left came → (r : ℕ) → r < n → turnsBack net u r ≡ true
         → spentOf net left r ≡ true
-    back-spent t left l is none r k e =
-        let B = turns-back net t u r e in
+    back-spent left l is none r k e =
+        let B = turns-back net u r e in
         spent-at net left r (is ∙ sym (back-ends net (T .network) I (run-of T l) (run-of T k) (B .from) (B .by))) none
 
-    -- so it may be relaxed after the edges
-    pub spread-back : {t base came : ℕ} {best previous best₁ previous₁ tree₁ best₂ previous₂ tree₂ left : List ℕ} → EveryExit net t u
+    -- so it may be labelled after the edges, and stays out of the queue
+    back-out : (left : List ℕ) {base came : ℕ} {best previous tree best′ previous′ : List ℕ} → came ≡ start net u → nothing ≤ at left came
+        → Settling n mostRunFeet u base (spentOf net left) best previous tree
+        → Offer (turnsBack net) (feetOf net) u base (at index (node * 8 + leg)) best previous best′ previous′
+        → Settling n mostRunFeet u base (spentOf net left) best′ previous′ tree
+    back-out left is none S (free z e e′) = rw (e, e′) S
+    back-out left {base} {came} {best} {previous} {tree} {best′} {previous′} is none S (leads {r} v x) = visited v
+      where
+        visited : Visit (turnsBack net) (feetOf net) u base r best previous best′ previous′
+            → Settling n mostRunFeet u base (spentOf net left) best′ previous′ tree
+        visited (kept h e e′) = rw (e, e′) S
+        visited (barred h e e′) = rw (e, e′) S
+        visited (labelled h s e e′) =
+            let l = back-behind r x in
+            rw (e, e′) (settling-without (fair T) S l refl h (back-spent left (S .inside) is none r l s))
+
+    pub spread-back : {t base came : ℕ} {best previous best₁ previous₁ tree₁ best₂ previous₂ left : List ℕ} → EveryExit net t u
         → Left net t n best left → at left node < nothing → came ≡ start net u → nothing ≤ at left came
         → Relaxed (edgeOf (bicycle net) t) (feetOf net) n u base best previous best₁ previous₁
         → Settling n mostRunFeet u base (spentOf net left) best₁ previous₁ tree₁
-        → Offer (toUsable net t) (feetOf net) u base (at index (node * 8 + leg)) best₁ previous₁ best₂ previous₂
-        → Settling n mostRunFeet u base (spentOf net left) best₂ previous₂ tree₂
-        → Spread net t n u base best previous left best₂ previous₂ tree₂ (set left node nothing)
-    spread-back {t} {left = left} every L some is none R S₁ O S₂ =
+        → Offer toEach (feetOf net) u base (at index (node * 8 + leg)) best₁ previous₁ best₂ previous₂
+        → Spread net t n u base best previous left best₂ previous₂ tree₁ (set left node nothing)
+    spread-back {t} {left = left} every L some is none R S₁ O =
         let grows = spent-grows left node nothing some in
         let both : Relaxed (leadsOf net t true) _ _ _ _ _ _ _ _ =
         relaxed-both (λ r l. omega (arith, fair T .short r l, S₁ .room)) R
-        (relaxed-one (λ r l h e. back-at t r l e) back-behind (S₁ .long) (S₁ .long′) (offer-as (back-offer t) O)) in
+        (relaxed-one (λ r l h e. back-at r l e) back-behind (S₁ .long) (S₁ .long′) (offer-as back-offer O)) in
         record {
           back = true;
-          only = λ r l b e. grows r l (back-spent t left (S₁ .inside) is none r l e);
+          only = λ r l b e. grows r l (back-spent left (S₁ .inside) is none r l e);
           relaxed = both;
-          settling = settling-spent grows S₂;
+          settling = settling-spent grows (back-out left is none S₁ (offer-as back-offer O));
           noted = noted-back A L both (S₁ .room) every some (leads-edge net t true u) (λ r. leads-back net t true u r refl);
         }
 

@@ -5,7 +5,7 @@
 -- Assumes nothing.
 use mathlib.Core.Path.{_≡_, sym, _∙_, ap}
 use mathlib.Core.Bool as bool
-use mathlib.Core.Bool.{true, not, true≢false, _&&_}
+use mathlib.Core.Bool.{true, not, true≢false}
 use mathlib.Core.List.{List}
 use mathlib.Core.Logic.{⊎-elim}
 use Prim.Native.Nat.{ℕ, _+_, _≤_, _<_, max}
@@ -70,17 +70,15 @@ pub record Back (net : List ℕ) (u r : ℕ) : Type 0 where
   pub from : start net r ≡ finish net u
   pub by : leavingLeg net r ≡ arrivalLeg net u
 
-pub turns-back : (net : List ℕ) (t u r : ℕ) → turnsBack net t u r ≡ true → Back net u r
+pub turns-back : (net : List ℕ) (u r : ℕ) → turnsBack net u r ≡ true → Back net u r
 unfolding turnsBack
-turns-back net t u r e =
-    let a = and-true (eqb (start net r) (finish net u) && eqb (leavingLeg net r) (arrivalLeg net u)) (usable (bicycle net) t r) e in
-    let b = and-true (eqb (start net r) (finish net u)) (eqb (leavingLeg net r) (arrivalLeg net u)) (a .0) in
+turns-back net u r e =
+    let b = and-true (eqb (start net r) (finish net u)) (eqb (leavingLeg net r) (arrivalLeg net u)) e in
     record { from = eqb-true (start net r) (finish net u) (b .0); by = eqb-true (leavingLeg net r) (arrivalLeg net u) (b .1) }
 
-pub back-usable : (net : List ℕ) (t u r : ℕ) → start net r ≡ finish net u → leavingLeg net r ≡ arrivalLeg net u
-    → usable (bicycle net) t r ≡ turnsBack net t u r
+pub is-back : (net : List ℕ) (u r : ℕ) → start net r ≡ finish net u → leavingLeg net r ≡ arrivalLeg net u → true ≡ turnsBack net u r
 unfolding turnsBack
-back-usable net t u r from by = simp (eq-eqb (start net r) (finish net u) from, eq-eqb (leavingLeg net r) (arrivalLeg net u) by)
+is-back net u r from by = simp (eq-eqb (start net r) (finish net u) from, eq-eqb (leavingLeg net r) (arrivalLeg net u) by)
 
 -- above the tolerance no movement leads on
 pub turn-bars : (net : List ℕ) (t u r : ℕ) → t < arrivalTurnLevel net u → edgeOf (bicycle net) t u r ≡ true → ⊥

@@ -1,7 +1,7 @@
 -- What is left to find at a node: which usable runs that leave it may still be without a label. It is one number for each node: 0 says nothing; 1 + a
 -- leg, that every usable run has its label but, it may be, the one that leaves by that leg; `nothing` or more, that every one has. A run that arrives
 -- where nothing is left to find is spent. Where the run that is settled comes from such a node, the run back there is spent: it is given a label as if a
--- bicycle could turn back, which no route does and no search needs, and nothing is left at the node then.
+-- bicycle could turn back, whether it may be ridden or not, which no route does and no search needs, and nothing is left at the node then.
 -- Assumes nothing.
 use mathlib.Core.Path.{_≡_}
 use mathlib.Core.Bool.{Bool, true, _&&_, _||_}
@@ -63,24 +63,28 @@ RunBehind n entry = (r : ℕ) → entry ≡ r + 1 → r < n
 abbrev pub toUsable : List ℕ → ℕ → ℕ → ℕ → Bool
 toUsable net t u r = usable (bicycle net) t r
 
+-- From any run to each.
+abbrev pub toEach : ℕ → ℕ → Bool
+toEach u r = true
+
 -- A movement from u within the tolerance leads onto the run behind an entry of the corner index, where there is one: so an edge leads to it exactly
 -- when it is usable.
 pub record Way (net : List ℕ) (t n u entry : ℕ) : Type 0 where
   pub inside : RunBehind n entry
   pub leads : (r : ℕ) → entry ≡ r + 1 → usable (bicycle net) t r ≡ edgeOf (bicycle net) t u r
 
--- Run r is usable and goes back where run u came from: it leaves where u arrives, by the leg of u's arrival.
-unfoldable pub turnsBack : List ℕ → ℕ → ℕ → ℕ → Bool
-turnsBack net t u r = eqb (start net r) (finish net u) && eqb (leavingLeg net r) (arrivalLeg net u) && usable (bicycle net) t r
+-- Run r goes back where run u came from: it leaves where u arrives, by the leg of u's arrival.
+unfoldable pub turnsBack : List ℕ → ℕ → ℕ → Bool
+turnsBack net u r = eqb (start net r) (finish net u) && eqb (leavingLeg net r) (arrivalLeg net u)
 
 -- The edges, and the ways back too where `back` says so.
 abbrev pub leadsOf : List ℕ → ℕ → Bool → ℕ → ℕ → Bool
-leadsOf net t back u r = edgeOf (bicycle net) t u r || (back && turnsBack net t u r)
+leadsOf net t back u r = edgeOf (bicycle net) t u r || (back && turnsBack net u r)
 
 -- The edges from u are relaxed, and what is left where it arrives is noted. A way back is relaxed only where it leads to a spent run.
 pub record Spread (net : List ℕ) (t n u base : ℕ) (best previous left best′ previous′ tree′ left′ : List ℕ) : Type 0 where
   pub back : Bool
-  pub only : (r : ℕ) → r < n → back ≡ true → turnsBack net t u r ≡ true → spentOf net left′ r ≡ true
+  pub only : (r : ℕ) → r < n → back ≡ true → turnsBack net u r ≡ true → spentOf net left′ r ≡ true
   pub relaxed : Relaxed (leadsOf net t back) (feetOf net) n u base best previous best′ previous′
   pub settling : Settling n mostRunFeet u base (spentOf net left′) best′ previous′ tree′
   pub noted : Noted net t n u best′ left left′

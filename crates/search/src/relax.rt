@@ -2,16 +2,17 @@
 // is looked over once: the first run to arrive from which every movement is within the tolerance labels every exit but the leg of its own arrival. If
 // nothing is left to find where that run came from, the run back there is of no use: it is labelled as if the bicycle could turn back, and never queued.
 // Else the next such arrival labels it. After that no arrival there finds anything, and a run that leads there need not be queued.
-ghost use Prim.Native.Nat.{_<_};
+ghost use Prim.Native.Nat.{_+_, _≤_, _<_};
+ghost use lib.ListN.{length};
 ghost use Rattle.format.specs.Corners.{cornersOf, Indexed};
 ghost use Rattle.queue.specs.Queue.{at};
-ghost use Rattle.routes.specs.Labels.{edgeOf};
+ghost use Rattle.routes.specs.Labels.{unlabelled, edgeOf};
 ghost use Rattle.streets.specs.Runs.{feetOf};
 ghost use Rattle.streets.specs.Bicycle.{bicycle};
 ghost use Rattle.search.specs.Relax.{Offer, Relaxed};
 ghost use Rattle.search.specs.Search.{Settling};
 ghost use Rattle.search.specs.Town.{mostRunFeet, Town};
-ghost use Rattle.search.specs.Left.{nothing, Unknown, Left, spentOf, Arrives, EveryExit, RightOnly, RunBehind, toUsable, Spread};
+ghost use Rattle.search.specs.Left.{nothing, Unknown, Left, spentOf, Arrives, EveryExit, RightOnly, RunBehind, toUsable, toEach, Spread};
 use crate::labels::NONE;
 use crate::labels::write_label;
 use crate::usable::is_usable;
@@ -127,7 +128,31 @@ fn relax_others(
     }
 }
 
-// The same, looking only where something is left to find, and noting what is left then.
+// Labels the run behind an entry of the corner index where it has no label, whether it may be ridden or not. That is for the run back where nothing is
+// left to find: nothing comes of its label, and it is never queued.
+fn label_back(
+    net: &[u8],
+    n: usize,
+    here: Reached,
+    entry: u16,
+    best: &mut [u32],
+    previous: &mut [u32],
+)
+    requires { ⌜ Town (now net) n × RunBehind n entry × (here .run < n) × (here .label + mostRunFeet < unlabelled) × (n ≤ length (now best)) × (n ≤ length (now previous)) ⌝ }
+    ensures { λ _. ⌜ Offer toEach (feetOf (now (net .entry))) (here .run) (here .label) entry (now (best .entry)) (now (previous .entry)) (now (best .exit)) (now (previous .exit)) ⌝ }
+{
+    if entry == 0 {
+        return;
+    }
+    let run = (entry - 1) as usize;
+    if best[run] < NONE {
+        return;
+    }
+    best[run] = here.label + (feet_of(net, run) as u32);
+    previous[run] = here.run as u32;
+}
+
+// The same as `relax_others`, looking only where something is left to find, and noting what is left then.
 fn relax_every(
     net: &[u8],
     index: &[u16; 8000],
@@ -149,7 +174,7 @@ fn relax_every(
         relax_others(net, index, n, tolerance, here, best, previous, tree, left);
         if NOTHING <= left[start_of(net, here.run)] {
             let back = index[node * 8 + leg];
-            relax_leg(net, n, tolerance, here, back, best, previous, tree, left);
+            label_back(net, n, here, back, best, previous);
             left[node] = NOTHING;
             return;
         }

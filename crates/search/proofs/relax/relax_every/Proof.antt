@@ -40,16 +40,16 @@ mul-back-2 c = search needs
 element-copy-out-back : tie.Need-element-copy-out-back
 element-copy-out-back c = search needs
 
-relax-leg-requires : tie.Need-relax-leg-requires
-relax-leg-requires c κs =
-    let after-relax-others = c .before .before .before .before .before .before .before .before .before .before .before .before .before .before in
+label-back-requires : tie.Need-label-back-requires
+label-back-requires c κs =
+    let after-relax-others = c .before .before .before .before .before .before .before .before .before .before .before .before in
     let s = after-relax-others .before .before .before .before .before .before .before .before .before .before .before in
-    (s .pre .0, back-behind (s .pre .0) (s .pre .1) (s .pre .2), after-relax-others .relax-others .ensures .1)
+    let S = after-relax-others .relax-others .ensures .1 in
+    (s .pre .0, back-behind (s .pre .0) (s .pre .1) (s .pre .2), S .inside, S .room, S .long, S .long′)
 
 element-write-left : tie.Need-element-write-left
 element-write-left c =
-    let after-relax-leg = c .before .before .before .before .before .before in
-    let after-relax-others = after-relax-leg .before .before .before .before .before .before .before .before .before .before .before .before .before .before .before in
+    let after-relax-others = c .before .before .before .before .before .before .before .before .before .before .before .before .before .before .before .before .before in
     let s = after-relax-others .before .before .before .before .before .before .before .before .before .before .before in
     omega (arith, s .pre .2 .at-node .few)
 
@@ -64,16 +64,15 @@ same-length-3 c = search needs
 
 returns : tie.Need-returns
 returns c =
-    let after-relax-leg = c .before .before .before .before .before .before in
-    let after-if2 = after-relax-leg .before .before .before .before .before .before in
+    let after-label-back = c .before .before .before .before in
+    let after-if2 = after-label-back .before .before .before .before in
     let after-start-of = after-if2 .before .before in
     let after-relax-others = after-start-of .before .before .before .before .before .before .before in
     let s = after-relax-others .before .before .before .before .before .before .before .before .before .before .before in
     let others = after-relax-others .relax-others .ensures in
-    let back = after-relax-leg .relax-leg .ensures in
     spread-back (s .pre .0) (s .pre .1) (s .pre .2) (s .pre .3) (s .pre .4) (s .pre .5) (after-start-of .start-of .ensures .is)
     (after-if2 .if2 .taken)
-    (others .0) (others .1) (back .0) (back .1)
+    (others .0) (others .1) (after-label-back .label-back .ensures)
 
 cast-left : tie.Need-cast-left
 cast-left c = search needs
@@ -126,8 +125,8 @@ mul-entry-2 c = search needs
 element-copy-out-entry : tie.Need-element-copy-out-entry
 element-copy-out-entry c = search needs
 
-relax-leg-requires-2 : tie.Need-relax-leg-requires-2
-relax-leg-requires-2 c κs =
+relax-leg-requires : tie.Need-relax-leg-requires
+relax-leg-requires c κs =
     let after-if3 = c .before .before .before .before .before in
     let s = after-if3 .before .before .before .before .before .before .before in
     (s .pre .0, other-way (s .pre .0) (s .pre .1) (s .pre .2) (s .pre .3) (omega (arith, s .pre .5)) (after-if3 .if3 .left) .inside, s .pre .6)
@@ -152,7 +151,7 @@ returns-4 c =
     let s = after-if1 .before .before .before .before .before .before in
     let one : at (s .args .left .now) (s .args .here .node) ≡ at (s .args .left .now) (s .args .here .node) - 1 + 1 = omega (arith, after-if1 .if1 .left) in
     let W = other-way (s .pre .0) (s .pre .1) (s .pre .2) (s .pre .3) (omega (arith, s .pre .5)) (after-if3 .if3 .left) in
-    let o = after-relax-leg .relax-leg2 .ensures in
+    let o = after-relax-leg .relax-leg .ensures in
     let R = relaxed-one (last-at (s .pre .0) (s .pre .1) (s .pre .2) _ (s .pre .4) one) (W .inside) (s .pre .6 .long) (s .pre .6 .long′)
     (offer-as (W .leads) (o .0)) in
     let N = noted-last (s .pre .0) (s .pre .2) (s .pre .4) R (s .pre .6 .room) (s .pre .3) (s .pre .5) (λ r e. e) (after-if1 .if1 .left)
@@ -171,7 +170,7 @@ relax-every-spec =
     add-back
     mul-back-2
     element-copy-out-back
-    relax-leg-requires
+    label-back-requires
     element-write-left
     same-length
     same-length-2
@@ -191,7 +190,7 @@ relax-every-spec =
     add-entry
     mul-entry-2
     element-copy-out-entry
-    relax-leg-requires-2
+    relax-leg-requires
     element-write-left-3
     same-length-7
     same-length-8
