@@ -144,12 +144,12 @@ fn label_back(
     if entry == 0 {
         return;
     }
-    let run = (entry - 1) as usize;
-    if best[run] < NONE {
+    let back = (entry - 1) as usize;
+    if best[back] < NONE {
         return;
     }
-    best[run] = here.label + (feet_of(net, run) as u32);
-    previous[run] = here.run as u32;
+    best[back] = here.label + (feet_of(net, back) as u32);
+    previous[back] = here.run as u32;
 }
 
 // The same as `relax_others`, looking only where something is left to find, and noting what is left then.

@@ -13,11 +13,11 @@ use Rattle.search.proofs.relax.label_back.Tie as tie
 returns : tie.Need-returns
 returns c = free (c .if1 .taken) refl refl
 
-sub-run : tie.Need-sub-run
-sub-run c = search needs
+sub-back : tie.Need-sub-back
+sub-back c = search needs
 
-cast-run : tie.Need-cast-run
-cast-run c = search needs
+cast-back : tie.Need-cast-back
+cast-back c = search needs
 
 mul-if2 : tie.Need-mul-if2
 mul-if2 c = search needs
@@ -86,8 +86,8 @@ label-back-spec =
     tie.close
     (tie.spec
     returns
-    sub-run
-    cast-run
+    sub-back
+    cast-back
     mul-if2
     slice-read-if2
     returns-2
