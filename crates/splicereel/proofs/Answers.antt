@@ -17,7 +17,7 @@ use Rattle.refusals.specs.declared.Refusal.the-variants.{NotANetwork, NoSuchNod
 use Rattle.format.specs.Network.{nodesOf, isNetwork}
 use Rattle.streets.specs.Runs.{runsOf}
 use Rattle.streets.specs.Bicycle.{bicycle}
-use Rattle.search.specs.declared.find.Found.{Found as RouteTold}
+use Rattle.search.specs.declared.find.Found.{Found as FoundRoute}
 use Rattle.search.specs.declared.find.Finding.{Finding}
 use Rattle.search.specs.declared.find.Finding.the-variants.{Nothing, Found}
 use Rattle.search.specs.Answered.{Answered}
@@ -138,7 +138,7 @@ tried-none g a b before =
     record { low = omega arith; high = omega arith; same-best = refl; same-previous = refl; untouched = refl; none = none-under-one g a b }
 
 module _ {g : Streets} {a b t : ℕ} {before after : Lent} (T : Tried g a b t before after) (place : ℕ) {buffer : List ℕ} {finding : Finding} (l : t < 5) where
-  pub tried-found : {route : RouteTold} → finding ≡ Found route → Answered g t a b place (after .buffer) buffer finding
+  pub tried-found : {route : FoundRoute} → finding ≡ Found route → Answered g t a b place (after .buffer) buffer finding
       → LeastFound g a b place (before .buffer) buffer (record { route = route; tolerance = t })
   tried-found e A =
       let W = rw (T .untouched) at (subst (λ (f : Finding). Answered g t a b place (after .buffer) buffer f) e A) in

@@ -18,13 +18,13 @@ use Rattle.routes.proofs.Tolerance.{exists-rises, none-falls, shortest-falls, s
 use Rattle.format.specs.Network.{nodesOf, isNetwork}
 use Rattle.streets.specs.Runs.{runsOf}
 use Rattle.streets.specs.Bicycle.{bicycle}
-use Rattle.search.specs.declared.find.Found.{Found}
+use Rattle.search.specs.declared.find.Found.{Found as FoundRoute}
 use Rattle.search.specs.Trace.{Written}
 use Rattle.search.proofs.LeavingLaws.{run-feet}
 use Rattle.splicereel.specs.declared.route.RouteAnswer.{RouteAnswer}
-use Rattle.splicereel.specs.declared.route.RouteAnswer.the-variants.{Refused, Nothing, Found as Finding}
+use Rattle.splicereel.specs.declared.route.RouteAnswer.the-variants.{Refused, Nothing, Found}
 use Rattle.splicereel.specs.declared.least_stress.LeastAnswer.{LeastAnswer}
-use Rattle.splicereel.specs.declared.least_stress.LeastAnswer.the-variants.{Refused, Nothing, Found as LeastFinding}
+use Rattle.splicereel.specs.declared.least_stress.LeastAnswer.the-variants.{Refused, Nothing, Found}
 use Rattle.splicereel.specs.Finding.{nodesRefusal, fits, routeRefusal, leastStressRefusal}
 use Rattle.splicereel.specs.Promises.{Lent, Told, none, found, refusalIn, LeastRoute, LeastFound}
 use Rattle.splicereel.specs.Promises.{toldRoute, RouteHolds, toldLeast, LeastHolds}
@@ -98,27 +98,27 @@ module _ {net : List ℕ} {from to t : ℕ} (call : RouteCall net from to t) whe
   abbrev Denied : Type 0
   Denied = NoRoute (bicycle net) t from to × (call .after .buffer ≡ call .before .buffer)
 
-  abbrev Drawn : Found → Type 0
+  abbrev Drawn : FoundRoute → Type 0
   Drawn route = Written (bicycle net) t from to (call .place) (call .before .buffer) (call .after .buffer) route
 
-  outcome : Outcome Found (toldRoute (call .answer)) Denied Drawn
+  outcome : Outcome FoundRoute (toldRoute (call .answer)) Denied Drawn
   outcome = go (call .answer) (call .returned .refusal ∙ route-unrefused (call .in-order) (call .low) (call .high)) (call .returned .holds)
     where
       go : (answer : RouteAnswer) → refusalIn (toldRoute answer) ≡ 0
           → RouteHolds (bicycle net) t from to (call .place) (call .before) (call .after) (toldRoute answer)
-          → Outcome Found (toldRoute answer) Denied Drawn
+          → Outcome FoundRoute (toldRoute answer) Denied Drawn
       go (Refused why) e H = absurd (positive why e)
       go Nothing e H = nothing refl H
-      go (Finding route) e H = something route refl H
+      go (Found route) e H = something route refl H
 
-  drawn-some : (route : Found) → Drawn route → SomeRoute (bicycle net) t from to
+  drawn-some : (route : FoundRoute) → Drawn route → SomeRoute (bicycle net) t from to
   drawn-some route W = (W .runs, W .shortest .within)
 
   denied-none : Denied → NoRoute (bicycle net) t from to
   denied-none D = D .0
 
 -- what is written stands
-written-stands : {g : Streets} {t a b place : ℕ} {before after : List ℕ} {told : Found} → Written g t a b place before after told
+written-stands : {g : Streets} {t a b place : ℕ} {before after : List ℕ} {told : FoundRoute} → Written g t a b place before after told
     → Stands g t a b place before after told
 written-stands W =
     record {
@@ -136,7 +136,7 @@ no-feet net is [] w l = refl
 no-feet net is (r ∷ rs) w l = absurd (omega (arith, run-feet (record { network = is; inside = w .route .1 .0 }) .0))
 
 -- the three numbers of the empty route
-empty-told : (told : Found) → told .count ≡ 0 → told .length ≡ 0 → told .level ≡ 1 → told ≡ record { count = 0; length = 0; level = 1 }
+empty-told : (told : FoundRoute) → told .count ≡ 0 → told .length ≡ 0 → told .level ≡ 1 → told ≡ record { count = 0; length = 0; level = 1 }
 empty-told told c l v =
     subst (λ (n : ℕ). told ≡ record { count = n; length = 0; level = 1 }) c
     (subst (λ (n : ℕ). told ≡ record { count = told .count; length = n; level = 1 }) l
@@ -149,7 +149,7 @@ module _ {net : List ℕ} {from t : ℕ} (call : RouteCall net from from t) wher
       stay : Within (bicycle net) t from from []
       stay = record { route = refl; level = call .low }
 
-      go : Outcome Found (toldRoute (call .answer)) (Denied call) (Drawn call)
+      go : Outcome FoundRoute (toldRoute (call .answer)) (Denied call) (Drawn call)
           → toldRoute (call .answer) ≡ found (record { count = 0; length = 0; level = 1 })
       go (nothing e D) = absurd (D .0 [] stay)
       go (something route e W) =
@@ -171,15 +171,15 @@ route-keeps {net} {from} {to} {t} call =
 
 -- ---- rising tolerances
 rises : {net : List ℕ} {from to t u : ℕ} (call : RouteCall net from to t) (higher : RouteCall net from to u) → t ≤ u
-    → (route : Found) → toldRoute (call .answer) ≡ found route
-    → (other : Found) × (toldRoute (higher .answer) ≡ found other) × (other .length ≤ route .length)
+    → (route : FoundRoute) → toldRoute (call .answer) ≡ found route
+    → (other : FoundRoute) × (toldRoute (higher .answer) ≡ found other) × (other .length ≤ route .length)
 rises {net} {from} {to} {t} {u} call higher l route e = go (outcome higher)
   where
     W : Drawn call route
     W = at-found (outcome call) route e
 
-    go : Outcome Found (toldRoute (higher .answer)) (Denied higher) (Drawn higher)
-        → (other : Found) × (toldRoute (higher .answer) ≡ found other) × (other .length ≤ route .length)
+    go : Outcome FoundRoute (toldRoute (higher .answer)) (Denied higher) (Drawn higher)
+        → (other : FoundRoute) × (toldRoute (higher .answer) ≡ found other) × (other .length ≤ route .length)
     go (nothing e′ D) = absurd (none-falls l (D .0) (W .runs) (W .shortest .within))
     go (something other e′ X) = (other, e′, omega (arith, shortest-falls l (W .shortest) (X .shortest), W .measured, X .measured))
 
@@ -199,7 +199,7 @@ module _ {net : List ℕ} {from to : ℕ} (call : LeastCall net from to) where
           → Outcome LeastRoute (toldLeast answer) LeastDenied LeastDrawn
       go (Refused why) e H = absurd (positive why e)
       go Nothing e H = nothing refl H
-      go (LeastFinding route tolerance) e H = something (record { route = route; tolerance = tolerance }) refl H
+      go (Found route tolerance) e H = something (record { route = route; tolerance = tolerance }) refl H
 
   least-some : (least : LeastRoute) → LeastDrawn least → SomeRoute (bicycle net) 4 from to
   least-some least F = exists-rises (F .most) (F .drawn .runs, F .drawn .shortest .within)
@@ -220,14 +220,14 @@ module _ {net : List ℕ} {from to u : ℕ} (call : LeastCall net from to) (othe
   says-none never = none-exactly (denied-none other) (drawn-some other) (outcome other) .1 never
 
   same-at : (x : LeastRoute) → toldLeast (call .answer) ≡ found x → u ≡ x .tolerance
-      → (y : Found) × (toldRoute (other .answer) ≡ found y) × (y .length ≡ x .route .length)
+      → (y : FoundRoute) × (toldRoute (other .answer) ≡ found y) × (y .length ≡ x .route .length)
   same-at x e s = go (outcome other)
     where
       W : Written (bicycle net) u from to (call .place) (call .before .buffer) (call .after .buffer) (x .route)
       W = rw s (at-found (least-outcome call) x e .drawn)
 
-      go : Outcome Found (toldRoute (other .answer)) (Denied other) (Drawn other)
-          → (y : Found) × (toldRoute (other .answer) ≡ found y) × (y .length ≡ x .route .length)
+      go : Outcome FoundRoute (toldRoute (other .answer)) (Denied other) (Drawn other)
+          → (y : FoundRoute) × (toldRoute (other .answer) ≡ found y) × (y .length ≡ x .route .length)
       go (nothing e′ D) = absurd (D .0 (W .runs) (W .shortest .within))
       go (something y e′ X) = (y, e′, sym (X .measured) ∙ shortest-same-length (X .shortest) (W .shortest) ∙ W .measured)
 

@@ -1,6 +1,7 @@
 -- Demand 3, whole, in its own order and words: one statement over what the calls Route and Least stress return. A route, within, shortest, none and the
--- smallest tolerance are those of crates/routes/specs/Routes.antt; `bicycle net` is the street graph of a network. Its proof is
--- proofs/DemandThreeHolds.antt.
+-- smallest tolerance are those of crates/routes/specs/Routes.antt; `bicycle net` is the street graph of a network. `Lent` is what a caller lends, the two
+-- scratch slices and the route buffer; `toldRoute` and `toldLeast` give what an answer tells: a refusal's number; none; or, as found, count, length and
+-- level of a route (`Found`), with the tolerance where Least stress found it. Its proof is proofs/DemandThreeHolds.antt.
 -- Assumes nothing.
 use Prim.Native.Nat.{ℕ, _+_, _≤_, _<_}
 use mathlib.Core.Path.{_≡_}

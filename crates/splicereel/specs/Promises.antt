@@ -8,12 +8,12 @@ use Rattle.routes.specs.Streets.{Streets}
 use Rattle.routes.specs.Routes.{NoRoute, LeastTolerance}
 use Rattle.streets.specs.Bicycle.{bicycle}
 use Rattle.refusals.specs.Numbers.{numberOf}
-use Rattle.search.specs.declared.find.Found.{Found}
+use Rattle.search.specs.declared.find.Found.{Found as FoundRoute}
 use Rattle.search.specs.Trace.{Written}
 use Rattle.splicereel.specs.declared.route.RouteAnswer.{RouteAnswer}
-use Rattle.splicereel.specs.declared.route.RouteAnswer.the-variants.{Refused, Nothing, Found as Finds}
+use Rattle.splicereel.specs.declared.route.RouteAnswer.the-variants.{Refused, Nothing, Found}
 use Rattle.splicereel.specs.declared.least_stress.LeastAnswer.{LeastAnswer}
-use Rattle.splicereel.specs.declared.least_stress.LeastAnswer.the-variants.{Refused, Nothing, Found as FindsLeast}
+use Rattle.splicereel.specs.declared.least_stress.LeastAnswer.the-variants.{Refused, Nothing, Found}
 use Rattle.splicereel.specs.Finding.{routeRefusal, leastStressRefusal}
 
 -- What a caller lends: the two scratch slices and the route buffer.
@@ -39,15 +39,15 @@ refusalIn (found what) = 0
 
 -- ---- Route
 -- Of a route are told its count, length and level.
-abbrev pub toldRoute : RouteAnswer → Told Found
+abbrev pub toldRoute : RouteAnswer → Told FoundRoute
 toldRoute (Refused why) = refused (numberOf why)
 toldRoute Nothing = none
-toldRoute (Finds route) = found route
+toldRoute (Found route) = found route
 
 -- What holds of each answer. A refusal: everything lent is as it came. None: no route from a to b is within t, and the buffer is as it came. Found: a
 -- shortest route stands in the buffer from the place on, the rest of the buffer is as it came, and count, length and level are that route's own.
 -- Free: which of several shortest routes it is; and what the scratch holds after an answer that is no refusal.
-abbrev pub RouteHolds : Streets → ℕ → ℕ → ℕ → ℕ → Lent → Lent → Told Found → Type 0
+abbrev pub RouteHolds : Streets → ℕ → ℕ → ℕ → ℕ → Lent → Lent → Told FoundRoute → Type 0
 RouteHolds g t a b place before after (refused number) = after ≡ before
 RouteHolds g t a b place before after none = NoRoute g t a b × (after .buffer ≡ before .buffer)
 RouteHolds g t a b place before after (found route) = Written g t a b place (before .buffer) (after .buffer) route
@@ -63,13 +63,13 @@ pub record RoutePromise (net : List ℕ) (from to t place : ℕ) (before after :
 -- ---- Least stress
 -- As Route; a route is told with the tolerance.
 pub record LeastRoute : Type 0 where
-  pub route : Found
+  pub route : FoundRoute
   pub tolerance : ℕ
 
 abbrev pub toldLeast : LeastAnswer → Told LeastRoute
 toldLeast (Refused why) = refused (numberOf why)
 toldLeast Nothing = none
-toldLeast (FindsLeast route tolerance) = found (record { route = route; tolerance = tolerance })
+toldLeast (Found route tolerance) = found (record { route = route; tolerance = tolerance })
 
 -- A shortest route within the smallest tolerance at which one exists, which is at most 4.
 pub record LeastFound (g : Streets) (a b place : ℕ) (before after : List ℕ) (least : LeastRoute) : Type 0 where
