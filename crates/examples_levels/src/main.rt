@@ -1,7 +1,7 @@
 // Prints the plain level examples of document 01, and then its tables at both ends of every band. The stored output has the paper's numbers.
-use format::Crossing;
-use format::Form;
-use format::TurnLane;
+use frames::Crossing;
+use frames::Form;
+use frames::TurnLane;
 
 const OUT: i32 = 1;
 

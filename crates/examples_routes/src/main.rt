@@ -2,10 +2,10 @@
 // to 5, and what Least stress says; for a refusal its number and whether anything lent was written. The
 // last five lines are refusals 11, 8 and, for a short scratch, 11. Which of several shortest routes is drawn is free,
 // so only lengths are printed.
-use format::ReadAnswer;
+use text::ReadAnswer;
 use refusals::Refusal;
 use refusals::number_of;
-use search::find::Found;
+use search_routes::find::Found;
 use splicereel::least_stress::LeastAnswer;
 use splicereel::route::RouteAnswer;
 

@@ -4,7 +4,7 @@ use Prim.Native.Nat.{ℕ, _-_, _^_, _≤_, _<_}
 use native.Mathlib.Nat.{pow-le-pow-right}
 use native.Mathlib.Omega.{arith}
 use mathlib.Core.Logic.{⊎-elim}
-use Rattle.routes.proofs.Facts.{lt-or-ge}
+use Rattle.lists.proofs.Facts.{lt-or-ge}
 use Rattle.io.specs.Digits.{Fewest}
 
 module _ (n k : ℕ) (small : n < 18446744073709551616) (F : Fewest 10 1 n k) where

@@ -1,6 +1,6 @@
 -- What is left of a word decides its number: another digit is one step of the definition, and any other byte ends it.
 -- Assumes nothing.
-use Prim.Native.Nat.{ℕ, _+_, _-_, _≤_, _<_}
+use Prim.Native.Nat.{ℕ, _+_, _≤_, _<_}
 use native.Mathlib.Numerals.{add-one}
 use native.Mathlib.Omega.{arith}
 use mathlib.Core.Path.{_≡_, refl}
@@ -10,7 +10,7 @@ use borrow.Author.Tests.{leb-true, ltb-true}
 use mathlib.Core.List.{List, [], _∷_}
 use lib.ListN.{length, getD, drop, drop-of-length-le}
 use lib.Seq.{drop-cons}
-use Rattle.routes.proofs.Facts.{and-true}
+use Rattle.lists.proofs.Facts.{and-true}
 use Rattle.route.specs.declared.arguments.Number.the-variants.{Is, No}
 use Rattle.route.specs.Numbers.{isDigit, goesOn, withDigit, numberFrom, numberIn}
 

@@ -8,13 +8,13 @@ use mathlib.Core.Bool.{true, _&&_}
 use mathlib.Core.List.{List, [], _∷_, _++_}
 use lib.ListN.{length, take, drop, getD, length-append}
 use lib.Seq.{take-at}
-use Rattle.format.specs.Network.{isNetwork}
+use Rattle.network.specs.Network.{isNetwork}
 use Rattle.routes.specs.Streets.{Streets}
 use Rattle.routes.specs.Routes.{Open, Movement, After, Route}
 use Rattle.streets.specs.Runs.{isOpen}
 use Rattle.streets.specs.Bicycle.{bicycle, movementLevel}
-use Rattle.search.specs.declared.find.Found.{Found as FoundRoute}
-use Rattle.search.specs.Trace.{Written}
+use Rattle.search_routes.specs.declared.find.Found.{Found as FoundRoute}
+use Rattle.search_routes.specs.Steps.Trace.{Written}
 use Rattle.splicereel.specs.declared.judge.MovementAnswer.{MovementAnswer}
 use Rattle.splicereel.specs.declared.judge.MovementAnswer.the-variants.{Level}
 use Rattle.splicereel.specs.Judge.{refused, levelled, toldMovement, JudgesMovement}

@@ -3,7 +3,7 @@
 mod answer;
 mod arguments;
 mod show;
-mod text;
+mod page;
 mod words;
 
 use arguments::Request;
@@ -14,9 +14,9 @@ fn main() {
         Request::Asked { from, to, limit } => {
             let mut text = io::large_buffer();
             let count = io::read_full(libc::STDIN_FILENO, &mut text);
-            let mut page = text::page();
+            let mut page = page::page();
             let end = answer::answer(&text[..count], from, to, limit, &mut page);
-            text::write(&page, end);
+            page::write(&page, end);
         }
     }
 }

@@ -1,8 +1,8 @@
 // Refusals and measures of document 01 in plain words.
 ghost use Prim.Native.Nat.{_+_, _≤_};
 ghost use Rattle.route.specs.Page.{pageSize};
-use crate::text::PAGE;
-use crate::text::put;
+use crate::page::PAGE;
+use crate::page::put;
 use refusals::Refusal;
 
 // What a refusal means.

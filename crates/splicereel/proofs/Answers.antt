@@ -10,25 +10,25 @@ use mathlib.Core.Logic.{_⊎_, inl, inr}
 use lib.Dec.{leb, ltb}
 use lib.ListN.{length}
 use borrow.Author.Tests.{le-leb, lt-leb, leb-true, ltb-true}
-use Rattle.routes.proofs.Facts.{and-true, lt-or-ge}
+use Rattle.lists.proofs.Facts.{and-true, lt-or-ge}
 use Rattle.routes.specs.Streets.{Streets}
 use Rattle.routes.specs.Routes.{NoRoute}
 use Rattle.refusals.specs.declared.Refusal.the-variants.{NotANetwork, NoSuchNode, NoSuchTolerance, NoRoom}
-use Rattle.format.specs.Network.{nodesOf, isNetwork}
+use Rattle.network.specs.Network.{nodesOf, isNetwork}
 use Rattle.streets.specs.Runs.{runsOf}
 use Rattle.streets.specs.Bicycle.{bicycle}
-use Rattle.search.specs.declared.find.Found.{Found as FoundRoute}
-use Rattle.search.specs.declared.find.Finding.{Finding}
-use Rattle.search.specs.declared.find.Finding.the-variants.{Nothing, Found}
-use Rattle.search.specs.Answered.{Answered}
-use Rattle.search.proofs.Tolerance.{NoneUnder, none-under-one, none-under-more, least-written}
+use Rattle.search_routes.specs.declared.find.Found.{Found as FoundRoute}
+use Rattle.search_routes.specs.declared.find.Finding.{Finding}
+use Rattle.search_routes.specs.declared.find.Finding.the-variants.{Nothing, Found}
+use Rattle.search_routes.specs.Steps.Answered.{Answered}
+use Rattle.search_routes.proofs.Tolerance.{NoneUnder, none-under-one, none-under-more, least-written}
 use Rattle.splicereel.specs.declared.route.RouteAnswer.{RouteAnswer}
 use Rattle.splicereel.specs.declared.route.RouteAnswer.the-variants.{Refused}
 use Rattle.splicereel.specs.declared.least_stress.LeastAnswer.{LeastAnswer}
 use Rattle.splicereel.specs.declared.least_stress.LeastAnswer.the-variants.{Refused, Nothing, Found}
 use Rattle.splicereel.specs.Finding.{nodesRefusal, fits, routeRefusal, leastStressRefusal}
 use Rattle.splicereel.specs.Promises.{Lent, lent, RoutePromise, LeastPromise, LeastFound}
-use Rattle.splicereel.specs.Steps.{answerOf, Rising}
+use Rattle.splicereel.specs.Steps.Calls.{answerOf, Rising}
 
 -- ---- room
 pub room-beyond : (runs place best previous buffer : ℕ) → buffer < place → false ≡ fits runs place best previous buffer

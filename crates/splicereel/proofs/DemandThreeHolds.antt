@@ -15,19 +15,18 @@ use Rattle.refusals.proofs.Positive.{positive}
 use Rattle.routes.specs.Streets.{Streets}
 use Rattle.routes.specs.Routes.{lengthOf, Within, NoRoute}
 use Rattle.routes.proofs.Tolerance.{exists-rises, none-falls, shortest-falls, shortest-same-length}
-use Rattle.format.specs.Network.{nodesOf, isNetwork}
+use Rattle.network.specs.Network.{nodesOf, isNetwork}
 use Rattle.streets.specs.Runs.{runsOf}
 use Rattle.streets.specs.Bicycle.{bicycle}
-use Rattle.search.specs.declared.find.Found.{Found as FoundRoute}
-use Rattle.search.specs.Trace.{Written}
-use Rattle.search.proofs.LeavingLaws.{run-feet}
+use Rattle.search_routes.specs.declared.find.Found.{Found as FoundRoute}
+use Rattle.search_routes.specs.Steps.Trace.{Written}
+use Rattle.streets.proofs.LeavingLaws.{run-feet}
 use Rattle.splicereel.specs.declared.route.RouteAnswer.{RouteAnswer}
 use Rattle.splicereel.specs.declared.route.RouteAnswer.the-variants.{Refused, Nothing, Found}
 use Rattle.splicereel.specs.declared.least_stress.LeastAnswer.{LeastAnswer}
 use Rattle.splicereel.specs.declared.least_stress.LeastAnswer.the-variants.{Refused, Nothing, Found}
 use Rattle.splicereel.specs.Finding.{nodesRefusal, fits, routeRefusal, leastStressRefusal}
-use Rattle.splicereel.specs.Promises.{Lent, Told, none, found, refusalIn, LeastRoute, LeastFound}
-use Rattle.splicereel.specs.Promises.{toldRoute, RouteHolds, toldLeast, LeastHolds}
+use Rattle.splicereel.specs.Promises.{Lent, Told, none, found, refusalIn, LeastRoute, LeastFound, toldRoute, RouteHolds, toldLeast, LeastHolds}
 use Rattle.splicereel.specs.DemandThree.{InOrder, RouteCall, LeastCall, Finds, SomeRoute, Stands, OfRoute, OfLeast, Agree, DemandThree}
 
 -- ---- what an answer that is no refusal is

@@ -11,10 +11,10 @@ use mathlib.Core.Logic.{_↔_}
 use lib.ListN.{length, take, drop}
 use Rattle.routes.specs.Streets.{Streets}
 use Rattle.routes.specs.Routes.{lengthOf, levelOf, countOf, Within, Shortest, NoRoute, LeastTolerance}
-use Rattle.format.specs.Network.{nodesOf, isNetwork}
+use Rattle.network.specs.Network.{nodesOf, isNetwork}
 use Rattle.streets.specs.Runs.{runsOf}
 use Rattle.streets.specs.Bicycle.{bicycle}
-use Rattle.search.specs.declared.find.Found.{Found}
+use Rattle.search_routes.specs.declared.find.Found.{Found}
 use Rattle.splicereel.specs.declared.route.RouteAnswer.{RouteAnswer}
 use Rattle.splicereel.specs.declared.least_stress.LeastAnswer.{LeastAnswer}
 use Rattle.splicereel.specs.Promises.{Lent, Told, none, found, LeastRoute, toldRoute, toldLeast, RoutePromise, LeastPromise}

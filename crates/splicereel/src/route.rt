@@ -2,13 +2,13 @@
 ghost use mathlib.Core.Path.{_≡_};
 ghost use Rattle.splicereel.specs.Finding.{fits};
 ghost use Rattle.splicereel.specs.Promises.{lent, RoutePromise};
-ghost use Rattle.splicereel.specs.Steps.{answerOf};
-use format::corners::no_corners;
-use format::network::is_network;
+ghost use Rattle.splicereel.specs.Steps.Calls.{answerOf};
+use network::corners::no_corners;
+use network::kept::is_network;
 use refusals::Refusal;
-use search::find::Finding;
-use search::find::Found;
-use search::find::find;
+use search_routes::find::Finding;
+use search_routes::find::Found;
+use search_routes::find::find;
 use streets::runs::nodes_of;
 use streets::runs::segments_of;
 

@@ -1,5 +1,5 @@
-pub mod Runs
 pub mod Exits
-pub mod NextBelow
+pub mod Runs
 pub mod Bicycle
-pub mod Places
+pub mod NextBelow
+pub mod Steps

@@ -2,7 +2,7 @@
 -- Assumes nothing.
 use mathlib.Core.Path.{sym}
 use lib.Seq.{length-take-le}
-use Rattle.splicereel.proofs.Printing.{kept-front}
+use Rattle.text.proofs.ReadTheorems.{kept-front}
 use borrow.Author.Needs.{needs}
 use Rattle.examples_routes.proofs.main.Statement.{statement}
 use Rattle.examples_routes.proofs.main.Tie as tie

@@ -2,7 +2,7 @@
 -- Assumes nothing.
 use mathlib.Core.Path.{sym}
 use lib.Seq.{length-take-le}
-use Rattle.splicereel.proofs.Printing.{kept-front}
+use Rattle.text.proofs.ReadTheorems.{kept-front}
 use borrow.Author.Needs.{needs}
 use Rattle.route.proofs.answer.answer.Statement.{statement}
 use Rattle.route.proofs.answer.answer.Tie as tie

@@ -1,0 +1,4 @@
+pub mod EditionLaws
+pub mod RangeLaws
+pub mod FrameLaws
+pub mod FaultLaws

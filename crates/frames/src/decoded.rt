@@ -1,0 +1,106 @@
+// The decoded values of a segment's frame that stands at a place of a network, read where they stand.
+ghost use mathlib.Core.Path.{_≡_};
+ghost use Prim.Native.Nat.{_+_, _≤_, _<_};
+ghost use lib.ListN.{length, take, drop};
+ghost use Rattle.frames.specs.Edition.{frameBytes};
+ghost use Rattle.frames.specs.Frame.{feet};
+ghost use Rattle.frames.specs.Decoded.{formOf, crossingOf, turnLaneOf};
+use crate::Crossing;
+use crate::Form;
+use crate::TurnLane;
+use crate::edition::extra_of;
+use crate::edition::frame_bytes;
+use crate::frame::feet_of;
+use crate::frame::word_at;
+
+// The segment's length in feet.
+pub fn feet_at(net: &[u8], start: usize, e: u8) -> usize
+    requires { ⌜ start + frameBytes e ≤ length (now net) ⌝ }
+    ensures { λ r. ⌜ (r ≡ feet e (take (frameBytes e) (drop start (now (net .entry))))) × (r < 65536) ⌝ }
+{
+    let size = frame_bytes(e);
+    feet_of(&net[start..start + size], e)
+}
+
+// The segment's form, with only the fields that its case has.
+pub fn form_at(net: &[u8], start: usize, e: u8) -> Form
+    requires { ⌜ start + frameBytes e ≤ length (now net) ⌝ }
+    ensures { λ r. ⌜ r ≡ formOf e (take (frameBytes e) (drop start (now (net .entry)))) ⌝ }
+{
+    let x = extra_of(e);
+    let at = start + x;
+    let form = net[at + 9];
+    let lanes = net[at + 11];
+    let speed = net[at + 12];
+    let reach = net[at + 13];
+    let marks = net[at + 14];
+    if form == 0 {
+        return Form::Mixed {
+            lanes,
+            speed,
+            marks,
+        };
+    }
+    if form == 1 {
+        return Form::BesideParking {
+            lanes,
+            speed,
+            reach,
+            marks,
+        };
+    }
+    if form == 2 {
+        return Form::BikeLane {
+            lanes,
+            speed,
+            reach,
+            marks,
+        };
+    }
+    Form::SeparatePath
+}
+
+// What the approach at place i of the frame crosses.
+pub fn crossing_at(net: &[u8], start: usize, e: u8, i: usize) -> Crossing
+    requires { ⌜ (start + frameBytes e ≤ length (now net)) × (i + 6 < frameBytes e) ⌝ }
+    ensures { λ r. ⌜ r ≡ crossingOf e (take (frameBytes e) (drop start (now (net .entry)))) i ⌝ }
+{
+    let at = start + i;
+    let control = net[at];
+    let lanes = net[at + 1];
+    let speed = net[at + 2];
+    if control == 0 {
+        return Crossing::Nothing;
+    }
+    if control == 1 {
+        return Crossing::Signal;
+    }
+    if control == 2 {
+        return Crossing::NoIsland { lanes, speed };
+    }
+    if control == 3 {
+        return Crossing::Island { lanes, speed };
+    }
+    Crossing::OneWay { lanes, speed }
+}
+
+// The turn lane of the approach at place i of the frame.
+pub fn turn_lane_at(net: &[u8], start: usize, e: u8, i: usize) -> TurnLane
+    requires { ⌜ (start + frameBytes e ≤ length (now net)) × (i + 6 < frameBytes e) ⌝ }
+    ensures { λ r. ⌜ r ≡ turnLaneOf (take (frameBytes e) (drop start (now (net .entry)))) i ⌝ }
+{
+    let at = start + i;
+    let kind = net[at + 3];
+    let feet = word_at(net, at + 4) as u16;
+    let speed = net[at + 6];
+    if kind == 0 {
+        return TurnLane::Absent;
+    }
+    if kind == 1 {
+        return TurnLane::Straight { feet, speed };
+    }
+    if kind == 2 {
+        return TurnLane::ShiftsLeft { feet, speed };
+    }
+    TurnLane::NoBikeLane { feet, speed }
+}

@@ -1,0 +1,53 @@
+// The bytes of any frame: its fields' widths, its check and its kind.
+ghost use mathlib.Core.Path.{_≡_};
+ghost use Prim.Native.Nat.{_+_, _%_, _≤_, _<_};
+ghost use lib.Dec.{eqb};
+ghost use lib.ListN.{length};
+ghost use Rattle.frames.specs.Edition.{frameBytes};
+ghost use Rattle.frames.specs.Frame.{byte, word, total, feet};
+ghost use Rattle.frames.specs.Faults.{framed};
+
+// A byte as a number that sums and products have room for.
+pub fn byte_at(f: &[u8], i: usize) -> usize
+    requires { ⌜ i < length (now f) ⌝ }
+    ensures { λ r. ⌜ (r ≡ byte (now (f .entry)) i) × (r < 256) ⌝ }
+{
+    f[i] as usize
+}
+
+// A field of two bytes, the high byte first.
+pub fn word_at(f: &[u8], i: usize) -> usize
+    requires { ⌜ i + 1 < length (now f) ⌝ }
+    ensures { λ r. ⌜ (r ≡ word (now (f .entry)) i) × (r < 65536) ⌝ }
+{
+    byte_at(f, i) * 256 + byte_at(f, i + 1)
+}
+
+// A segment's length in feet.
+pub fn feet_of(f: &[u8], e: u8) -> usize
+    requires { ⌜ (29 < length (now f)) × (frameBytes e ≤ length (now f)) ⌝ }
+    ensures { λ r. ⌜ (r ≡ feet e (now (f .entry))) × (r < 65536) ⌝ }
+{
+    word_at(f, 7)
+}
+
+// The sum of a frame's bytes modulo 256, which a right check makes 0.
+pub fn sum_of(f: &[u8]) -> usize
+    ensures { λ r. ⌜ r ≡ total (now (f .entry)) % 256 ⌝ }
+{
+    let mut sum: usize = 0;
+    let mut i: usize = 0;
+    while i < f.len() {
+        sum = (sum + byte_at(f, i)) % 256;
+        i += 1;
+    }
+    sum
+}
+
+// Bytes of a frame's length are a frame of this kind.
+pub fn is_framed(f: &[u8], kind: u8) -> bool
+    requires { ⌜ 0 < length (now f) ⌝ }
+    ensures { λ r. ⌜ r ≡ eqb (framed kind (length (now (f .entry))) (now (f .entry)) 0) 0 ⌝ }
+{
+    (sum_of(f) == 0) & (f[0] == kind)
+}

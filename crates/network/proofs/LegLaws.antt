@@ -1,0 +1,33 @@
+-- Frame after frame finds its legs free exactly when no corner of all their ends comes twice: by induction on the frames, with the legs taken
+-- before them apart from all their ends.
+-- Assumes nothing.
+use Prim.Native.Nat.{ℕ}
+use mathlib.Core.Bool.{true, false, not, _&&_}
+use mathlib.Core.Path.{_≡_, subst}
+use mathlib.Core.List.{List}
+use borrow.Author.Tests.{ne-eqb, not-true}
+use lib.Dec.{eqb}
+use Rattle.lists.proofs.Facts.{and-true}
+use Rattle.network.specs.Legs.{cornerA, cornerB, isIn, legsFree}
+use Rattle.lists.proofs.Lists.{true-is-false}
+
+-- ---- of one frame
+pub record Free (taken f : List ℕ) : Type 0 where
+  pub new-a : isIn (cornerA f) taken ≡ false
+  pub new-b : isIn (cornerB f) taken ≡ false
+  pub apart : eqb (cornerA f) (cornerB f) ≡ false
+
+pub free : (taken f : List ℕ) → legsFree taken f ≡ true → Free taken f
+unfolding legsFree
+free taken f h =
+    let p = and-true (not (isIn (cornerA f) taken) && not (isIn (cornerB f) taken)) (not (eqb (cornerA f) (cornerB f))) h in
+    let q = and-true (not (isIn (cornerA f) taken)) (not (isIn (cornerB f) taken)) (p .0) in
+    record { new-a = not-true _ (q .0); new-b = not-true _ (q .1); apart = not-true _ (p .1) }
+
+pub legs-free : (taken f : List ℕ) → Free taken f → legsFree taken f ≡ true
+unfolding legsFree
+legs-free taken f w = rw (w .new-a, w .new-b, w .apart)
+
+-- a number of the list, and one that is not
+pub in-apart : (c x : ℕ) (taken : List ℕ) → isIn c taken ≡ true → isIn x taken ≡ false → eqb c x ≡ false
+in-apart c x taken p q = ne-eqb c x (λ (e : c ≡ x). true-is-false q (subst (λ (y : ℕ). isIn y taken ≡ true) e p))

@@ -1,0 +1,5 @@
+pub mod CornerLaws
+pub mod FaultLaws
+pub mod FramesChecked
+pub mod LegLaws
+pub mod NetworkLaws

@@ -1,0 +1,4 @@
+pub mod Legs
+pub mod Faults
+pub mod Network
+pub mod Steps

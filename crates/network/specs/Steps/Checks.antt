@@ -1,0 +1,49 @@
+-- What the steps of test 8 promise to each other.
+-- Assumes nothing.
+use Prim.Native.Nat.{ℕ, _+_, _*_}
+use mathlib.Core.Bool.{Bool, true, cond, _&&_, not}
+use mathlib.Core.Path.{_≡_}
+use mathlib.Core.List.{List, []}
+use lib.Dec.{eqb}
+use Rattle.refusals.specs.declared.Refusal.the-variants.{WrongField, WrongCount, LegTaken}
+use Rattle.refusals.specs.Numbers.{unless}
+use Rattle.frames.specs.Edition.{frameBytes}
+use Rattle.frames.specs.Frame.{segments}
+use Rattle.frames.specs.Ranges.{endsOk, streetOk}
+use Rattle.frames.specs.Faults.{framed}
+use lib.ListN.{getD, set}
+use Rattle.network.specs.Legs.{cornerA, cornerB}
+use Rattle.network.specs.Network.{framesOk, isNetwork}
+use Rattle.network.specs.Steps.Corners.{Indexed, cornersFrom, cornersOf}
+
+-- No leg of this frame is taken in the index, nor are its two legs one; and the index with both legs taken by segment s.
+unfoldable pub freeIn : List ℕ → List ℕ → Bool
+freeIn index f = eqb (getD index (cornerA f) 0) 0 && eqb (getD index (cornerB f) 0) 0 && not (eqb (cornerA f) (cornerB f))
+
+abbrev pub claimed : List ℕ → ℕ → List ℕ → List ℕ
+claimed index s f = set (set index (cornerA f) (s * 2 + 1)) (cornerB f) (s * 2 + 2)
+
+-- Claiming the legs of segment s: whether they were free, and the index after it, which changes only then.
+pub record Claimed (f : List ℕ) (s : ℕ) (before after : List ℕ) (r : Bool) : Type 0 where
+  pub answer : r ≡ freeIn before f
+  pub index : after ≡ cond (freeIn before f) (claimed before s f) before
+
+-- The number of a segment's line by the corner index, in place of the legs taken.
+abbrev pub indexFault : ℕ → ℕ → Bool → List ℕ → List ℕ → ℕ
+indexFault e n more index f =
+    framed 2 (frameBytes e) f (unless more WrongCount (unless (endsOk n f && streetOk e f) WrongField (unless (freeIn index f) LegTaken 0)))
+
+-- The frame of segment s judged where it stands in kept bytes.
+pub record SegmentChecked (f : List ℕ) (e n s : ℕ) (before after : List ℕ) (r : Bool) : Type 0 where
+  pub answer : r ≡ eqb (indexFault e n true before f) 0
+  pub index : r ≡ true → after ≡ claimed before s f
+
+-- The test of so many segment frames at the front of bytes: its answer, and where it passes, the index of their corners.
+pub record FramesChecked (e n segments : ℕ) (bytes after : List ℕ) (r : Bool) : Type 0 where
+  pub answer : r ≡ framesOk e n segments [] bytes
+  pub index : r ≡ true → Indexed (cornersFrom e segments [] bytes) after
+
+-- The test of kept bytes: its answer, and where it passes, the index of the network's corners.
+pub record Checked (net after : List ℕ) (r : Bool) : Type 0 where
+  pub answer : r ≡ isNetwork net
+  pub index : r ≡ true → Indexed (cornersOf net) after

@@ -1,0 +1,49 @@
+-- `route::text::put_right` meets its contract: blanks and digits together are at most 20.
+-- Assumes nothing.
+use native.Mathlib.Omega.{arith}
+use lib.Seq.{length-take-le}
+use borrow.Author.Needs.{needs}
+use Rattle.route.proofs.Digits.{at-most-20}
+use Rattle.route.proofs.page.put_right.Statement.{statement}
+use Rattle.route.proofs.page.put_right.Tie as tie
+
+decimal-requires : tie.Need-decimal-requires
+decimal-requires c κs = search needs
+
+array-share-prefix-digits : tie.Need-array-share-prefix-digits
+array-share-prefix-digits c = search needs
+
+slice-aggregate-put : tie.Need-slice-aggregate-put
+slice-aggregate-put c = search needs
+
+short-of-requires : tie.Need-short-of-requires
+short-of-requires c κs = search needs
+
+add-put : tie.Need-add-put
+add-put c = search needs
+
+put-requires : tie.Need-put-requires
+put-requires c κs =
+    let after-decimal = c .before .before .before in
+    let start = after-decimal .before .before in
+    omega
+    (arith, length-take-le (after-decimal .decimal .result) (after-decimal .decimal .last .1 .0) (after-decimal .decimal .ensures .0 .0), at-most-20 (start .args .n) (after-decimal .decimal .result) (search needs) (after-decimal .decimal .ensures .1 .0))
+
+returns : tie.Need-returns
+returns c =
+    let after-decimal = c .before .before .before .before in
+    let start = after-decimal .before .before in
+    omega
+    (arith, c .put .ensures .end, length-take-le (after-decimal .decimal .result) (after-decimal .decimal .last .1 .0) (after-decimal .decimal .ensures .0 .0), at-most-20 (start .args .n) (after-decimal .decimal .result) (search needs) (after-decimal .decimal .ensures .1 .0))
+
+pub put-right-spec : {M : Type 1} → statement M
+put-right-spec =
+    tie.close
+    (tie.spec
+    decimal-requires
+    array-share-prefix-digits
+    slice-aggregate-put
+    short-of-requires
+    add-put
+    put-requires
+    returns)

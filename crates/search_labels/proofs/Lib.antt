@@ -1,0 +1,5 @@
+pub mod Beginning
+pub mod Exits
+pub mod Invariant
+pub mod Queueing
+pub mod Rounds

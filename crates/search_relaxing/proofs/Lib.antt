@@ -1,0 +1,3 @@
+pub mod TownLaws
+pub mod TestLaws
+pub mod LeftLaws

@@ -1,0 +1,2 @@
+pub mod Town
+pub mod Left

@@ -1,0 +1,36 @@
+-- A network that Read could keep as the code of the search sees it: its runs, counted, and what a search may use of them.
+-- Assumes nothing.
+use mathlib.Core.Path.{_≡_}
+use mathlib.Core.Bool.{Bool, true, _&&_}
+use mathlib.Core.List.{List}
+use Prim.Native.Nat.{ℕ}
+use lib.Dec.{leb, eqb}
+use Rattle.routes.specs.Streets.{Streets}
+use Rattle.routes.specs.Steps.Labels.{Graph, sourceOf, edgeOf}
+use Rattle.network.specs.Network.{isNetwork}
+use Rattle.streets.specs.Runs.{runsOf, feetOf}
+use Rattle.streets.specs.Bicycle.{bicycle}
+
+-- No edition has a longer run, in feet, nor more runs.
+abbrev pub mostRunFeet : ℕ
+mostRunFeet = 52800
+
+abbrev pub mostRuns : ℕ
+mostRuns = 2000
+
+-- A network that Read could keep, with n runs.
+pub record Town (net : List ℕ) (n : ℕ) : Type 0 where
+  pub network : isNetwork net ≡ true
+  pub count : n ≡ runsOf net
+
+-- What a search from a node at a tolerance sees of it.
+abbrev pub townGraph : List ℕ → ℕ → ℕ → ℕ → Graph
+townGraph net n t from = record { size = n; source = sourceOf (bicycle net) t from; edge = edgeOf (bicycle net) t; feet = feetOf net }
+
+-- The run is open, and not above the tolerance.
+unfoldable pub usable : Streets → ℕ → ℕ → Bool
+usable g t r = g .isOpen r && leb (g .stress r) t
+
+-- The run arrives at b.
+unfoldable pub arrivesAt : Streets → ℕ → ℕ → Bool
+arrivesAt g b r = eqb (g .finish r) b

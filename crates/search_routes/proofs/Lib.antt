@@ -1,0 +1,4 @@
+pub mod Tracing
+pub mod Levels
+pub mod Stopping
+pub mod Tolerance

@@ -1,0 +1,3 @@
+// The route read off the labels of a search, and written.
+pub mod find;
+pub mod trace;
