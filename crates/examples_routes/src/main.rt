@@ -2,12 +2,12 @@
 // to 5, and what Least stress says; for a refusal its number and whether anything lent was written. The
 // last five lines are refusals 11, 8 and, for a short scratch, 11. Which of several shortest routes is drawn is free,
 // so only lengths are printed.
-use text::ReadAnswer;
 use refusals::Refusal;
 use refusals::number_of;
-use search_routes::find::Found;
+use routes::Found;
 use splicereel::least_stress::LeastAnswer;
 use splicereel::route::RouteAnswer;
+use text::ReadAnswer;
 
 const OUT: i32 = 1;
 

@@ -10,11 +10,11 @@ ghost use Rattle.printing.specs.Output.{Wrote};
 ghost use Rattle.levels.specs.Levels.{levelLine, levelLines, refusedLine, PrintsLevels};
 use printing::put_bytes;
 use printing::put_field;
-use text::ReadAnswer;
 use refusals::Refusal;
 use refusals::number_of;
 use streets::runs::segment_grade;
 use streets::runs::segments_of;
+use text::ReadAnswer;
 
 // One line: a segment's number, level and measure.
 fn put_level(net: &[u8], segment: usize, place: usize, out: &mut [u8]) -> usize

@@ -13,8 +13,8 @@ use Rattle.routes.specs.Streets.{Streets}
 use Rattle.routes.specs.Routes.{Open, Movement, After, Route}
 use Rattle.streets.specs.Runs.{isOpen}
 use Rattle.streets.specs.Bicycle.{bicycle, movementLevel}
-use Rattle.search_routes.specs.declared.find.Found.{Found as FoundRoute}
-use Rattle.search_routes.specs.Steps.Trace.{Written}
+use Rattle.routes.specs.declared.Found.{Found as FoundRoute}
+use Rattle.routes.specs.Written.{Written}
 use Rattle.splicereel.specs.declared.judge.MovementAnswer.{MovementAnswer}
 use Rattle.splicereel.specs.declared.judge.MovementAnswer.the-variants.{Level}
 use Rattle.splicereel.specs.Judge.{refused, levelled, toldMovement, JudgesMovement}

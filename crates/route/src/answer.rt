@@ -8,19 +8,19 @@ ghost use Rattle.routes.specs.Routes.{Route};
 ghost use Rattle.streets.specs.Bicycle.{bicycle};
 ghost use Rattle.route.specs.Page.{pageSize};
 use crate::arguments::Limit;
+use crate::page::PAGE;
+use crate::page::put;
+use crate::page::put_number;
 use crate::show::put_ends;
 use crate::show::put_refused;
 use crate::show::put_refused_line;
 use crate::show::put_runs;
 use crate::show::put_summary;
-use crate::page::PAGE;
-use crate::page::put;
-use crate::page::put_number;
-use text::ReadAnswer;
 use splicereel::least_stress::LeastAnswer;
 use splicereel::least_stress::least_stress;
 use splicereel::route::RouteAnswer;
 use splicereel::route::route;
+use text::ReadAnswer;
 
 // Bytes in which every network of the format fits.
 fn room() -> [u8; 30007]

@@ -2,8 +2,8 @@
 // at most 65,536 bytes are read. The whole answer is made before any of it is written. Arguments that ask nothing get one line on standard error.
 mod answer;
 mod arguments;
-mod show;
 mod page;
+mod show;
 mod words;
 
 use arguments::Request;

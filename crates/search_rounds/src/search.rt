@@ -12,11 +12,11 @@ ghost use Rattle.search_rounds.specs.Steps.NoKeys.{NoKeys};
 ghost use Rattle.search_labels.specs.Steps.Search.{Stop};
 ghost use Rattle.search_relaxing.specs.Steps.Left.{Unknown};
 use crate::begin::begin;
-use search_relaxing::relax::NOTHING;
-use search_relaxing::relax::all_left;
 use crate::settle::settle;
 use queue::TOP;
 use queue::least;
+use search_relaxing::relax::NOTHING;
+use search_relaxing::relax::all_left;
 use streets::runs::finish_of;
 
 fn arrives_at(net: &[u8], node: usize, run: usize) -> bool

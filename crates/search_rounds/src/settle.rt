@@ -7,10 +7,10 @@ ghost use Rattle.search_labels.specs.Steps.Keys.{runIn};
 ghost use Rattle.search_labels.specs.Steps.Search.{Due, Round};
 ghost use Rattle.search_relaxing.specs.Steps.Town.{mostRunFeet, Town};
 ghost use Rattle.search_relaxing.specs.Steps.Left.{Left, spentOf, Noted};
-use search_relaxing::relax::Reached;
-use search_relaxing::relax::relax;
 use queue::least;
 use queue::remove;
+use search_relaxing::relax::Reached;
+use search_relaxing::relax::relax;
 use streets::runs::arrival_leg;
 use streets::runs::finish_of;
 

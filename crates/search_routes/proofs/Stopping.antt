@@ -22,7 +22,8 @@ use Rattle.search_labels.specs.Steps.Keys.{labelIn, runIn, key}
 use Rattle.search_labels.specs.Steps.Search.{Fair, loose, Stop}
 use Rattle.search_relaxing.specs.Steps.Town.{arrivesAt}
 use Rattle.lists.specs.Placed.{placed}
-use Rattle.search_routes.specs.Steps.Trace.{Traced, Ends, Written}
+use Rattle.search_routes.specs.Steps.Trace.{Traced, Ends}
+use Rattle.routes.specs.Written.{Written}
 use Rattle.search_labels.proofs.Invariant.{fair-paved}
 
 module _ (g : Streets) (t a b : ℕ) {most m : ℕ} {best previous : List ℕ} (F : Fair (g .runs) (g .feet) most)

@@ -11,8 +11,8 @@ use Rattle.routes.specs.Streets.{Streets}
 use Rattle.routes.specs.Routes.{NoRoute, LeastTolerance}
 use Rattle.lists.proofs.Facts.{last-or-below}
 use Rattle.routes.proofs.Tolerance.{least-of-shortest}
-use Rattle.search_routes.specs.declared.find.Found.{Found}
-use Rattle.search_routes.specs.Steps.Trace.{Written}
+use Rattle.routes.specs.declared.Found.{Found}
+use Rattle.routes.specs.Written.{Written}
 
 -- no tolerance from 1 up to t, t left out, has a route
 pub record NoneUnder (g : Streets) (t a b : ℕ) : Type 0 where

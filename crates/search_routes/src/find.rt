@@ -8,19 +8,13 @@ ghost use Rattle.network.specs.Steps.Corners.{cornersOf, Indexed};
 ghost use Rattle.streets.specs.Runs.{runsOf};
 ghost use Rattle.streets.specs.Bicycle.{bicycle};
 ghost use Rattle.search_routes.specs.Steps.Answered.{Answered};
-use search_rounds::search::nearest;
 use crate::trace::count_runs;
 use crate::trace::fill;
 use crate::trace::route_level;
 use queue::TOP;
+use routes::Found;
+use search_rounds::search::nearest;
 use streets::runs::segments_of;
-
-// What is told of a route: the number of its runs, its length in feet, and its level.
-pub struct Found {
-    pub count: usize,
-    pub length: u32,
-    pub level: u8,
-}
 
 pub enum Finding {
     // No route is within the tolerance.

@@ -17,7 +17,7 @@ use Rattle.refusals.specs.declared.Refusal.the-variants.{NotANetwork, NoSuchNod
 use Rattle.network.specs.Network.{nodesOf, isNetwork}
 use Rattle.streets.specs.Runs.{runsOf}
 use Rattle.streets.specs.Bicycle.{bicycle}
-use Rattle.search_routes.specs.declared.find.Found.{Found as FoundRoute}
+use Rattle.routes.specs.declared.Found.{Found as FoundRoute}
 use Rattle.search_routes.specs.declared.find.Finding.{Finding}
 use Rattle.search_routes.specs.declared.find.Finding.the-variants.{Nothing, Found}
 use Rattle.search_routes.specs.Steps.Answered.{Answered}

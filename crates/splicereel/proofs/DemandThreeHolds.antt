@@ -18,8 +18,8 @@ use Rattle.routes.proofs.Tolerance.{exists-rises, none-falls, shortest-falls, s
 use Rattle.network.specs.Network.{nodesOf, isNetwork}
 use Rattle.streets.specs.Runs.{runsOf}
 use Rattle.streets.specs.Bicycle.{bicycle}
-use Rattle.search_routes.specs.declared.find.Found.{Found as FoundRoute}
-use Rattle.search_routes.specs.Steps.Trace.{Written}
+use Rattle.routes.specs.declared.Found.{Found as FoundRoute}
+use Rattle.routes.specs.Written.{Written}
 use Rattle.streets.proofs.LeavingLaws.{run-feet}
 use Rattle.splicereel.specs.declared.route.RouteAnswer.{RouteAnswer}
 use Rattle.splicereel.specs.declared.route.RouteAnswer.the-variants.{Refused, Nothing, Found}

@@ -14,7 +14,7 @@ use Rattle.routes.specs.Routes.{lengthOf, levelOf, countOf, Within, Shortest, N
 use Rattle.network.specs.Network.{nodesOf, isNetwork}
 use Rattle.streets.specs.Runs.{runsOf}
 use Rattle.streets.specs.Bicycle.{bicycle}
-use Rattle.search_routes.specs.declared.find.Found.{Found}
+use Rattle.routes.specs.declared.Found.{Found}
 use Rattle.splicereel.specs.declared.route.RouteAnswer.{RouteAnswer}
 use Rattle.splicereel.specs.declared.least_stress.LeastAnswer.{LeastAnswer}
 use Rattle.splicereel.specs.Promises.{Lent, Told, none, found, LeastRoute, toldRoute, toldLeast, RoutePromise, LeastPromise}

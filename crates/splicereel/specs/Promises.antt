@@ -8,8 +8,8 @@ use Rattle.routes.specs.Streets.{Streets}
 use Rattle.routes.specs.Routes.{NoRoute, LeastTolerance}
 use Rattle.streets.specs.Bicycle.{bicycle}
 use Rattle.refusals.specs.Numbers.{numberOf}
-use Rattle.search_routes.specs.declared.find.Found.{Found as FoundRoute}
-use Rattle.search_routes.specs.Steps.Trace.{Written}
+use Rattle.routes.specs.declared.Found.{Found as FoundRoute}
+use Rattle.routes.specs.Written.{Written}
 use Rattle.splicereel.specs.declared.route.RouteAnswer.{RouteAnswer}
 use Rattle.splicereel.specs.declared.route.RouteAnswer.the-variants.{Refused, Nothing, Found}
 use Rattle.splicereel.specs.declared.least_stress.LeastAnswer.{LeastAnswer}

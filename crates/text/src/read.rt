@@ -12,8 +12,6 @@ ghost use Rattle.text.specs.Steps.Spelled.{spelledText};
 ghost use Rattle.text.specs.Steps.Lines.{bytesAt, LineDecoded, LineFault, FrameRead, SegmentJudged, linesAfter};
 ghost use Rattle.text.specs.Told.{told, toldOf, ReadDid};
 use crate::ReadAnswer;
-use network::corners::claim_legs;
-use network::corners::no_corners;
 use digits::Scan;
 use digits::decode_into;
 use digits::scan_line;
@@ -23,6 +21,8 @@ use frames::frame::word_at;
 use frames::ranges::ends_ok;
 use frames::ranges::head_ok;
 use frames::ranges::street_ok;
+use network::corners::claim_legs;
+use network::corners::no_corners;
 use refusals::Refusal;
 
 // One line: a frame, with the place after the line, or its first fault.

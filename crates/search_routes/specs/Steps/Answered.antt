@@ -7,7 +7,7 @@ use Rattle.routes.specs.Streets.{Streets}
 use Rattle.routes.specs.Routes.{NoRoute}
 use Rattle.search_routes.specs.declared.find.Finding.{Finding}
 use Rattle.search_routes.specs.declared.find.Finding.the-variants.{Nothing, Found}
-use Rattle.search_routes.specs.Steps.Trace.{Written}
+use Rattle.routes.specs.Written.{Written}
 
 -- Nothing: no route from a to b is within t, and the buffer is as it came. Found: a shortest one stands in it from the place on, and count, length and
 -- level are that route's own. Which of several shortest routes it is, is free.

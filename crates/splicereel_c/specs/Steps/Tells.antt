@@ -4,7 +4,7 @@ use Prim.Native.Nat.{ℕ, _<_}
 use Rattle.text.specs.declared.ReadAnswer.{ReadAnswer}
 use Rattle.text.specs.declared.ReadAnswer.the-variants.{Refused, Kept}
 use Rattle.text.specs.Told.{told}
-use Rattle.search_routes.specs.declared.find.Found.{Found}
+use Rattle.routes.specs.declared.Found.{Found}
 use Rattle.splicereel.specs.declared.judge.SegmentAnswer.{SegmentAnswer}
 use Rattle.splicereel.specs.declared.judge.MovementAnswer.{MovementAnswer}
 use Rattle.splicereel.specs.Judge.{toldSegment, toldMovement}
