@@ -1,3 +1,4 @@
 pub mod TownLaws
 pub mod TestLaws
-pub mod LeftLaws
+pub mod UnfoundLaws
+pub mod ChoiceLaws

@@ -20,7 +20,7 @@ use Rattle.streets.specs.Exits.{rightHandExit}
 use Rattle.streets.specs.Bicycle.{bicycle, arrivalTurnLevel, arrivalCrossingLevel, runLevel, movementLevel}
 use Rattle.streets.specs.Steps.Leaving.{Leaves, Entry}
 use Rattle.search_relaxing.specs.Steps.Town.{Town, usable}
-use Rattle.search_relaxing.specs.Steps.Left.{Arrives, EveryExit, RightOnly, Way, turnsBack}
+use Rattle.search_relaxing.specs.Steps.Unfound.{Arrives, EveryExit, RightOnly, Way, turnsBack}
 use Rattle.search_relaxing.proofs.TownLaws.{run-behind}
 
 pub source-usable : {net : List ℕ} {node leg r : ℕ} → Leaves net node leg r → (t : ℕ) → usable (bicycle net) t r ≡ sourceOf (bicycle net) t node r

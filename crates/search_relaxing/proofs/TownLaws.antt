@@ -13,7 +13,7 @@ use Rattle.streets.specs.Runs.{feetOf, RunOf}
 use Rattle.streets.specs.Steps.Leaving.{Leaves, Entry}
 use Rattle.search_labels.specs.Steps.Search.{Fair}
 use Rattle.search_relaxing.specs.Steps.Town.{mostRunFeet, mostRuns, Town}
-use Rattle.search_relaxing.specs.Steps.Left.{RunBehind}
+use Rattle.search_relaxing.specs.Steps.Unfound.{RunBehind}
 use Rattle.streets.proofs.LeavingLaws.{run-feet}
 
 -- no edition has longer runs

@@ -1,2 +1,3 @@
 pub mod Town
-pub mod Left
+pub mod Unfound
+pub mod Choice

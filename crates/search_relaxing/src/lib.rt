@@ -1,3 +1,10 @@
 // Relaxing over the streets of a kept network: which runs get a label by way of a run that is settled. What functions promise is in specs/Steps/.
 pub mod relax;
 pub mod usable;
+
+// What a search is asked: over how many runs it goes, the tolerance, and the node that it begins at.
+pub struct Ask {
+    pub runs: usize,
+    pub tolerance: u8,
+    pub from: usize,
+}

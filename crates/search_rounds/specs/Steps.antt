@@ -1,1 +1,1 @@
-pub mod NoKeys
+pub mod Searches

@@ -1,22 +1,19 @@
 // The rounds of a search.
 ghost use mathlib.Core.Path.{_≡_};
-ghost use Prim.Native.Nat.{_≤_, _<_};
-ghost use lib.ListN.{length};
-ghost use Rattle.network.specs.Network.{nodesOf};
-ghost use Rattle.network.specs.Steps.Corners.{cornersOf, Indexed};
-ghost use Rattle.queue.specs.Steps.Queue.{Empty};
 ghost use Rattle.streets.specs.Runs.{RunOf};
 ghost use Rattle.streets.specs.Bicycle.{bicycle};
-ghost use Rattle.search_relaxing.specs.Steps.Town.{arrivesAt, Town, townGraph};
-ghost use Rattle.search_rounds.specs.Steps.NoKeys.{NoKeys};
+ghost use Rattle.search_labels.specs.Steps.Labels.{Room};
 ghost use Rattle.search_labels.specs.Steps.Search.{Stop};
-ghost use Rattle.search_relaxing.specs.Steps.Left.{Unknown};
+ghost use Rattle.search_relaxing.specs.Steps.Town.{arrivesAt, askedGraph};
+ghost use Rattle.search_rounds.specs.Steps.Searches.{NoKeys, Sought, Unused};
 use crate::begin::begin;
 use crate::settle::settle;
 use queue::TOP;
 use queue::least;
+use search_labels::run_in;
+use search_relaxing::Ask;
 use search_relaxing::relax::NOTHING;
-use search_relaxing::relax::all_left;
+use search_relaxing::relax::all_unknown;
 use streets::runs::finish_of;
 
 fn arrives_at(net: &[u8], node: usize, run: usize) -> bool
@@ -30,27 +27,24 @@ fn arrives_at(net: &[u8], node: usize, run: usize) -> bool
 fn search_to(
     net: &[u8],
     index: &[u16; 8000],
-    n: usize,
-    tolerance: u8,
-    from: usize,
+    ask: Ask,
     to: usize,
     best: &mut [u32],
     previous: &mut [u32],
     tree: &mut [u64],
-    left: &mut [u8; 1000],
+    unfound: &mut [u8; 1000],
 ) -> u64
-    requires { ⌜ Town (now net) n × Indexed (cornersOf (now net)) (now index) × (from < nodesOf (now net)) × (to < nodesOf (now net)) × (from ≡ to → ⊥) × (n ≤ length (now best)) × (n ≤ length (now previous)) × Empty (now tree) n × Unknown (now left) ⌝ }
-    ensures { λ r. ⌜ Stop (townGraph (now (net .entry)) n tolerance from) (arrivesAt (bicycle (now (net .entry))) to) (now (best .exit)) (now (previous .exit)) r ⌝ }
+    requires { ⌜ Sought (now net) (now index) ask to × Room (ask .runs) (now best) (now previous) × Unused (ask .runs) (now tree) (now unfound) ⌝ }
+    ensures { λ r. ⌜ Stop (askedGraph (now (net .entry)) ask) (arrivesAt (bicycle (now (net .entry))) to) (now (best .exit)) (now (previous .exit)) r ⌝ }
 {
-    begin(net, index, n, tolerance, from, best, previous, tree);
-    left[from] = NOTHING;
-    let mut key = least(n, tree);
+    begin(net, index, ask, best, previous, tree);
+    unfound[ask.from] = NOTHING;
+    let mut key = least(ask.runs, tree);
     while key < TOP {
-        let run = (key % 65536) as usize;
-        if arrives_at(net, to, run) {
+        if arrives_at(net, to, run_in(key)) {
             return key;
         }
-        key = settle(net, index, n, tolerance, key, best, previous, tree, left);
+        key = settle(net, index, ask, key, best, previous, tree, unfound);
     }
     key
 }
@@ -66,28 +60,15 @@ fn no_keys() -> [u64; 4000]
 pub fn nearest(
     net: &[u8],
     index: &[u16; 8000],
-    n: usize,
-    tolerance: u8,
-    from: usize,
+    ask: Ask,
     to: usize,
     best: &mut [u32],
     previous: &mut [u32],
 ) -> u64
-    requires { ⌜ Town (now net) n × Indexed (cornersOf (now net)) (now index) × (from < nodesOf (now net)) × (to < nodesOf (now net)) × (from ≡ to → ⊥) × (n ≤ length (now best)) × (n ≤ length (now previous)) ⌝ }
-    ensures { λ r. ⌜ Stop (townGraph (now (net .entry)) n tolerance from) (arrivesAt (bicycle (now (net .entry))) to) (now (best .exit)) (now (previous .exit)) r ⌝ }
+    requires { ⌜ Sought (now net) (now index) ask to × Room (ask .runs) (now best) (now previous) ⌝ }
+    ensures { λ r. ⌜ Stop (askedGraph (now (net .entry)) ask) (arrivesAt (bicycle (now (net .entry))) to) (now (best .exit)) (now (previous .exit)) r ⌝ }
 {
     let mut tree = no_keys();
-    let mut left = all_left();
-    search_to(
-        net,
-        index,
-        n,
-        tolerance,
-        from,
-        to,
-        best,
-        previous,
-        &mut tree,
-        &mut left,
-    )
+    let mut unfound = all_unknown();
+    search_to(net, index, ask, to, best, previous, &mut tree, &mut unfound)
 }

@@ -1,14 +1,12 @@
 // Settling a run: it leaves the queue, and the edges from it are relaxed.
-ghost use Rattle.network.specs.Steps.Corners.{cornersOf, Indexed};
-ghost use Rattle.routes.specs.Steps.Labels.{edgeOf};
-ghost use Rattle.streets.specs.Runs.{feetOf};
-ghost use Rattle.streets.specs.Bicycle.{bicycle};
-ghost use Rattle.search_labels.specs.Steps.Keys.{runIn};
-ghost use Rattle.search_labels.specs.Steps.Search.{Due, Round};
-ghost use Rattle.search_relaxing.specs.Steps.Town.{mostRunFeet, Town};
-ghost use Rattle.search_relaxing.specs.Steps.Left.{Left, spentOf, Noted};
+ghost use Rattle.search_relaxing.specs.Steps.Town.{Ready};
+ghost use Rattle.search_relaxing.specs.Steps.Unfound.{Unfound};
+ghost use Rattle.search_rounds.specs.Steps.Searches.{DueNext, Settles};
 use queue::least;
 use queue::remove;
+use search_labels::label_in;
+use search_labels::run_in;
+use search_relaxing::Ask;
 use search_relaxing::relax::Reached;
 use search_relaxing::relax::relax;
 use streets::runs::arrival_leg;
@@ -18,27 +16,26 @@ use streets::runs::finish_of;
 pub fn settle(
     net: &[u8],
     index: &[u16; 8000],
-    n: usize,
-    tolerance: u8,
+    ask: Ask,
     key: u64,
     best: &mut [u32],
     previous: &mut [u32],
     tree: &mut [u64],
-    left: &mut [u8; 1000],
+    unfound: &mut [u8; 1000],
 ) -> u64
-    requires { ⌜ Town (now net) n × Indexed (cornersOf (now net)) (now index) × Due n mostRunFeet key (spentOf (now net) (now left)) (now best) (now previous) (now tree) × Left (now net) tolerance n (now best) (now left) ⌝ }
-    ensures { λ r. ⌜ Round (edgeOf (bicycle (now (net .entry))) tolerance) (feetOf (now (net .entry))) n key (spentOf (now (net .entry)) (now (left .exit))) (now (best .entry)) (now (previous .entry)) (now (best .exit)) (now (previous .exit)) (now (tree .exit)) r ⌝ }
-    ensures { λ _. ⌜ Noted (now (net .entry)) tolerance n (runIn key) (now (best .exit)) (now (left .entry)) (now (left .exit)) ⌝ }
+    requires { ⌜ Ready (now net) (now index) ask ⌝ }
+    requires { ⌜ DueNext (now net) ask key (now best) (now previous) (now tree) (now unfound) × Unfound (now net) (ask .tolerance) (ask .runs) (now best) (now unfound) ⌝ }
+    ensures { λ r. ⌜ Settles (now (net .entry)) ask key (now (best .entry)) (now (previous .entry)) (now (unfound .entry)) (now (best .exit)) (now (previous .exit)) (now (tree .exit)) (now (unfound .exit)) r ⌝ }
 {
-    let run = (key % 65536) as usize;
-    let label = (key / 65536) as u32;
-    remove(n, run, tree);
+    let run = run_in(key);
+    let label = label_in(key);
+    remove(ask.runs, run, tree);
     let here = Reached {
         run,
         label,
         node: finish_of(net, run),
         leg: arrival_leg(net, run),
     };
-    relax(net, index, n, tolerance, here, best, previous, tree, left);
-    least(n, tree)
+    relax(net, index, ask, here, best, previous, tree, unfound);
+    least(ask.runs, tree)
 }

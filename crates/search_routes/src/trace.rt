@@ -9,9 +9,10 @@ ghost use Rattle.routes.specs.Steps.Labels.{chain};
 ghost use Rattle.routes.specs.Routes.{levelOf};
 ghost use Rattle.streets.specs.Runs.{RunOf};
 ghost use Rattle.streets.specs.Bicycle.{bicycle, movementLevel};
-ghost use Rattle.search_relaxing.specs.Steps.Town.{mostRuns, Town};
-ghost use Rattle.search_routes.specs.Steps.Trace.{Traced, Ends};
+ghost use Rattle.search_relaxing.specs.Steps.Town.{mostRuns, Ready};
+ghost use Rattle.search_routes.specs.Steps.Trace.{Traced, Ends, Fillable};
 use search_labels::NONE;
+use search_relaxing::Ask;
 use streets::movements::arrival_of;
 use streets::movements::level_onto;
 use streets::runs::leaving_leg;
@@ -34,15 +35,15 @@ pub fn count_runs(previous: &[u32], n: usize, last: usize) -> usize
 
 // Writes the chain at the front of the tail.
 pub fn fill(previous: &[u32], n: usize, last: usize, count: usize, tail: &mut [u16])
-    requires { ⌜ (n ≤ mostRuns) × (n ≤ length (now previous)) × (count ≤ length (now tail)) × Traced n (at (now previous)) last count ⌝ }
+    requires { ⌜ Fillable n (now previous) last count (now tail) ⌝ }
     ensures { λ _. ⌜ now (tail .exit) ≡ chain (at (now (previous .entry))) count last (drop count (now (tail .entry))) ⌝ }
 {
-    let mut left = count;
+    let mut place = count;
     let mut run = last;
-    while 0 < left {
-        tail[left - 1] = run as u16;
+    while 0 < place {
+        tail[place - 1] = run as u16;
         run = previous[run] as usize;
-        left -= 1;
+        place -= 1;
     }
 }
 
@@ -58,23 +59,23 @@ fn movement_level(net: &[u8], index: &[u16; 8000], run: usize, next: usize) -> u
 pub fn route_level(
     net: &[u8],
     index: &[u16; 8000],
-    n: usize,
+    ask: Ask,
     previous: &[u32],
     last: usize,
     count: usize,
 ) -> u8
-    requires { ⌜ Town (now net) n × Indexed (cornersOf (now net)) (now index) × (n ≤ length (now previous)) × Traced n (at (now previous)) last count ⌝ }
+    requires { ⌜ Ready (now net) (now index) ask × (ask .runs ≤ length (now previous)) × Traced (ask .runs) (at (now previous)) last count ⌝ }
     ensures { λ r. ⌜ r ≡ levelOf (bicycle (now (net .entry))) (chain (at (now (previous .entry))) count last []) ⌝ }
 {
     let mut level = run_level(net, last);
     let mut next = last;
-    let mut left = count - 1;
-    while 0 < left {
+    let mut before = count - 1;
+    while 0 < before {
         let run = previous[next] as usize;
         let onto = greater(movement_level(net, index, run, next), level);
         level = greater(run_level(net, run), onto);
         next = run;
-        left -= 1;
+        before -= 1;
     }
     level
 }

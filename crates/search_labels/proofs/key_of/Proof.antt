@@ -1,4 +1,4 @@
--- `search::labels::key_of` meets its contract: the label stands before the run's number, so that keys go by length first.
+-- The label stands before the run's number, so that keys go by length first.
 -- Assumes nothing.
 use native.Mathlib.Omega.{arith}
 use borrow.Author.Needs.{needs}

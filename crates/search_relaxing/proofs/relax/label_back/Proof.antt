@@ -1,96 +1,143 @@
--- No run is behind the entry; or it has a label already; or it gets the label of the run reached with its own feet added, for which there is room.
+-- The way back is not asked for; or no run is behind the entry; or it has a label already; or it gets the label of the run reached with its own feet
+-- added, for which there is room.
 -- Assumes nothing.
 use mathlib.Core.Path.{refl, ap}
-use Prim.Native.Nat.{ℕ, _+_, _-_}
+use Prim.Native.Nat.{ℕ, _+_}
+use borrow.Author.Tests.{not-true, not-false}
 use lib.ListN.{set}
-use Rattle.search_labels.specs.Steps.Relax.{kept, labelled, free, leads}
+use Rattle.search_labels.specs.Steps.Relax.{kept, labelled as labelled-now, free, leads}
+use Rattle.search_relaxing.specs.Steps.Choice.{unasked, labelled}
 use Rattle.search_relaxing.proofs.TownLaws.{few-runs, behind}
+use Rattle.search_relaxing.proofs.UnfoundLaws.{back-behind}
 use native.Mathlib.Omega.{arith}
 use borrow.Author.Needs.{needs}
 use Rattle.search_relaxing.proofs.relax.label_back.Statement.{statement}
 use Rattle.search_relaxing.proofs.relax.label_back.Tie as tie
+use Rattle.search_relaxing.proofs.relax.label_back.Reads as reads
+use Rattle.search_relaxing.proofs.relax.label_back.Lts as lts
+use Rattle.streets.proofs.runs.feet_of.Reads as feet-of-reads
 
+-- src/relax.rt:204:9
 returns : tie.Need-returns
-returns c = free (c .if1 .taken) refl refl
+returns c = unasked (not-true _ (c .if1 .taken)) refl refl
 
-sub-back : tie.Need-sub-back
-sub-back c = search needs
+-- src/relax.rt:206:23
+mul-entry : tie.Need-mul-entry
+mul-entry c = search needs
 
-cast-back : tie.Need-cast-back
-cast-back c = search needs
+-- src/relax.rt:206:23
+add-entry : tie.Need-add-entry
+add-entry c = search needs
 
-mul-if2 : tie.Need-mul-if2
-mul-if2 c = search needs
+-- src/relax.rt:206:17
+mul-entry-2 : tie.Need-mul-entry-2
+mul-entry-2 c = search needs
 
-slice-read-if2 : tie.Need-slice-read-if2
-slice-read-if2 c =
-    let start = c .before .before .before .before .before in
-    omega (arith, behind (start .pre .0) (start .pre .1) (c .before .if1 .left) .inside, start .pre .4)
+-- src/relax.rt:206:17
+element-copy-out-entry : tie.Need-element-copy-out-entry
+element-copy-out-entry c = search needs
 
+-- src/relax.rt:208:9
 returns-2 : tie.Need-returns-2
-returns-2 c = leads (kept (c .if2 .taken) refl refl) (omega (arith, c .before .before .if1 .left))
+returns-2 c = labelled (not-false _ (c .before .before .before .before .if1 .left)) (free (c .if2 .taken) refl refl)
 
+-- src/relax.rt:210:16
+sub-run : tie.Need-sub-run
+sub-run c = search needs
+
+-- src/relax.rt:210:15
+cast-run : tie.Need-cast-run
+cast-run c = omega (arith, few-runs (c .before .before .before .before .before .before .before .before .pre .0 .town), behind (c .before .before .before .before .before .before .before .before .pre .0 .town) (back-behind (c .before .before .before .before .before .before .before .before .pre .0 .town) (c .before .before .before .before .before .before .before .before .pre .0 .indexed) (c .before .before .before .before .before .before .before .before .pre .1 .arrives)) (c .if2 .left) .inside)
+
+-- src/relax.rt:211:8
+mul-if3 : tie.Need-mul-if3
+mul-if3 c = omega (arith, few-runs (c .before .before .before .before .before .before .before .before .pre .0 .town), behind (c .before .before .before .before .before .before .before .before .pre .0 .town) (back-behind (c .before .before .before .before .before .before .before .before .pre .0 .town) (c .before .before .before .before .before .before .before .before .pre .0 .indexed) (c .before .before .before .before .before .before .before .before .pre .1 .arrives)) (c .if2 .left) .inside)
+
+-- src/relax.rt:211:8
+slice-read-if3 : tie.Need-slice-read-if3
+slice-read-if3 c =
+    let s = c .before .before .before .before .before .before .before .before .before in
+    omega (arith, behind (s .pre .0 .town) (back-behind (s .pre .0 .town) (s .pre .0 .indexed) (s .pre .1 .arrives)) (c .before .if2 .left) .inside, s .pre .2 .scratch .best-fits)
+
+-- src/relax.rt:212:9
+returns-3 : tie.Need-returns-3
+returns-3 c = labelled (not-false _ (c .before .before .before .before .before .before .if1 .left)) (leads (kept (c .if3 .taken) refl refl) (omega (arith, c .before .before .if2 .left)))
+
+-- src/relax.rt:214:31
 feet-of-requires : tie.Need-feet-of-requires
 feet-of-requires c κs =
-    let start = c .before .before .before .before .before .before in
-    behind (start .pre .0) (start .pre .1) (c .before .before .if1 .left) .run
+    let s = c .before .before .before .before .before .before .before .before .before .before in
+    behind (s .pre .0 .town) (back-behind (s .pre .0 .town) (s .pre .0 .indexed) (s .pre .1 .arrives)) (c .before .before .if2 .left) .run
 
+-- src/relax.rt:214:31
 cast-best : tie.Need-cast-best
 cast-best c =
-    let start = c .before .before .before .before .before .before .before in
-    omega (arith, c .feet-of .ensures, behind (start .pre .0) (start .pre .1) (c .before .before .before .if1 .left) .feet)
+    let s = c .before .before .before .before .before .before .before .before .before .before .before in
+    omega (arith, c .feet-of .ensures, behind (s .pre .0 .town) (back-behind (s .pre .0 .town) (s .pre .0 .indexed) (s .pre .1 .arrives)) (c .before .before .before .if2 .left) .feet)
 
+-- src/relax.rt:214:17
 add-best : tie.Need-add-best
 add-best c =
-    let start = c .before .before .before .before .before .before .before .before in
-    omega (arith, c .before .feet-of .ensures, behind (start .pre .0) (start .pre .1) (c .before .before .before .before .if1 .left) .feet, start .pre .3)
+    let s = c .before .before .before .before .before .before .before .before .before .before .before .before in
+    omega (arith, c .before .feet-of .ensures, behind (s .pre .0 .town) (back-behind (s .pre .0 .town) (s .pre .0 .indexed) (s .pre .1 .arrives)) (c .before .before .before .before .if2 .left) .feet, s .pre .2 .label)
 
+-- src/relax.rt:214:5
 mul-best : tie.Need-mul-best
-mul-best c = search needs
+mul-best c = omega (arith, few-runs (c .before .before .before .before .before .before .before .before .before .before .before .before .pre .0 .town), behind (c .before .before .before .before .before .before .before .before .before .before .before .before .pre .0 .town) (back-behind (c .before .before .before .before .before .before .before .before .before .before .before .before .pre .0 .town) (c .before .before .before .before .before .before .before .before .before .before .before .before .pre .0 .indexed) (c .before .before .before .before .before .before .before .before .before .before .before .before .pre .1 .arrives)) (c .before .before .before .before .if2 .left) .inside)
 
+-- src/relax.rt:214:5
 slice-write-best : tie.Need-slice-write-best
 slice-write-best c =
-    let start = c .before .before .before .before .before .before .before .before in
-    omega (arith, behind (start .pre .0) (start .pre .1) (c .before .before .before .before .if1 .left) .inside, start .pre .4)
+    let s = c .before .before .before .before .before .before .before .before .before .before .before .before in
+    omega (arith, behind (s .pre .0 .town) (back-behind (s .pre .0 .town) (s .pre .0 .indexed) (s .pre .1 .arrives)) (c .before .before .before .before .if2 .left) .inside, s .pre .2 .scratch .best-fits)
 
+-- src/relax.rt:215:21
 cast-previous : tie.Need-cast-previous
 cast-previous c =
-    let start = c .before .before .before .before .before .before .before .before .before in
-    omega (arith, start .pre .2, few-runs (start .pre .0))
+    let s = c .before .before .before .before .before .before .before .before .before .before .before .before .before in
+    omega (arith, s .pre .1 .inside, few-runs (s .pre .0 .town))
 
+-- src/relax.rt:215:5
 mul-previous : tie.Need-mul-previous
-mul-previous c = search needs
+mul-previous c = omega (arith, few-runs (c .before .before .before .before .before .before .before .before .before .before .before .before .before .pre .0 .town), behind (c .before .before .before .before .before .before .before .before .before .before .before .before .before .pre .0 .town) (back-behind (c .before .before .before .before .before .before .before .before .before .before .before .before .before .pre .0 .town) (c .before .before .before .before .before .before .before .before .before .before .before .before .before .pre .0 .indexed) (c .before .before .before .before .before .before .before .before .before .before .before .before .before .pre .1 .arrives)) (c .before .before .before .before .before .if2 .left) .inside)
 
+-- src/relax.rt:215:5
 slice-write-previous : tie.Need-slice-write-previous
 slice-write-previous c =
-    let start = c .before .before .before .before .before .before .before .before .before in
-    omega (arith, behind (start .pre .0) (start .pre .1) (c .before .before .before .before .before .if1 .left) .inside, start .pre .5)
+    let s = c .before .before .before .before .before .before .before .before .before .before .before .before .before in
+    omega (arith, behind (s .pre .0 .town) (back-behind (s .pre .0 .town) (s .pre .0 .indexed) (s .pre .1 .arrives)) (c .before .before .before .before .before .if2 .left) .inside, s .pre .2 .scratch .previous-fits)
 
+-- src/relax.rt:191:1
 same-length : tie.Need-same-length
 same-length c = search needs
 
+-- src/relax.rt:191:1
 same-length-2 : tie.Need-same-length-2
 same-length-2 c = search needs
 
-returns-3 : tie.Need-returns-3
-returns-3 c =
-    let after-feet-of = c .before .before in
-    let after-if2 = after-feet-of .before in
-    let after-if1 = after-if2 .before .before in
-    let x = after-if1 .before .before .before .before .args in
-    let v = ap (λ (feet : ℕ). x .here .label + feet) (after-feet-of .feet-of .ensures) in
-    leads (labelled (after-if2 .if2 .left) refl (ap (set (x .best .now) (x .entry - 1)) v) refl) (omega (arith, after-if1 .if1 .left))
+-- src/relax.rt:191:1
+returns-4 : tie.Need-returns-4
+returns-4 c =
+    let s = c .before .before .before .before .before .before .before .before .before .before .before .before .before in
+    let v = ap (λ (feet : ℕ). s .args .here .label + feet) (c .before .before .feet-of .ensures) in
+    labelled (not-false _ (c .before .before .before .before .before .before .before .before .before .if1 .left))
+    (leads (labelled-now (c .before .before .before .if3 .left) refl (ap (set (s .args .best .now) _) v) refl) (omega (arith, c .before .before .before .before .before .if2 .left)))
 
 pub label-back-spec : {M : Type 1} → statement M
 label-back-spec =
     tie.close
     (tie.spec
     returns
-    sub-back
-    cast-back
-    mul-if2
-    slice-read-if2
+    mul-entry
+    add-entry
+    mul-entry-2
+    element-copy-out-entry
     returns-2
+    sub-run
+    cast-run
+    mul-if3
+    slice-read-if3
+    returns-3
     feet-of-requires
     cast-best
     add-best
@@ -101,4 +148,4 @@ label-back-spec =
     slice-write-previous
     same-length
     same-length-2
-    returns-3)
+    returns-4)

@@ -1,6 +1,6 @@
 -- No run is behind the entry; or it has a label already; or it is not usable. Else it gets the label of the run reached with
 -- its own feet added, for which there is room. It was not queued, having no label. It is queued above the key of the run that is being settled, or,
--- where nothing is left to find where it leads, it is spent and stays out.
+-- where nothing is to find where it leads, it is spent and stays out.
 -- Assumes nothing.
 use mathlib.Core.Path.{refl, sym, _∙_, ap}
 use Prim.Native.Nat.{ℕ, _+_, _-_}
@@ -8,14 +8,14 @@ use lib.ListN.{set}
 use Rattle.search_labels.specs.Steps.Relax.{kept, labelled, free, leads, barred}
 use Rattle.search_labels.proofs.Queueing.{settling-free, settling-more, settling-without}
 use Rattle.search_relaxing.proofs.TownLaws.{fair, few-runs, behind}
-use Rattle.search_relaxing.proofs.LeftLaws.{spent-at}
+use Rattle.search_relaxing.proofs.UnfoundLaws.{spent-at}
 use native.Mathlib.Omega.{arith}
 use borrow.Author.Needs.{needs}
 use Rattle.search_relaxing.proofs.relax.relax_leg.Statement.{statement}
 use Rattle.search_relaxing.proofs.relax.relax_leg.Tie as tie
 
 returns : tie.Need-returns
-returns c = (free (c .if1 .taken) refl refl, c .before .before .before .before .before .pre .2)
+returns c = record { offered = free (c .if1 .taken) refl refl; settling = c .before .before .before .before .before .pre .2 }
 
 sub-run : tie.Need-sub-run
 sub-run c = search needs
@@ -34,7 +34,7 @@ slice-read-if2 c =
 returns-2 : tie.Need-returns-2
 returns-2 c =
     let start = c .before .before .before .before .before .before .before in
-    (leads (kept (c .if2 .taken) refl refl) (omega (arith, c .before .before .if1 .left)), start .pre .2)
+    record { offered = leads (kept (c .if2 .taken) refl refl) (omega (arith, c .before .before .if1 .left)); settling = start .pre .2 }
 
 is-usable-requires : tie.Need-is-usable-requires
 is-usable-requires c κs =
@@ -110,7 +110,13 @@ returns-3 c =
     let B = behind (s .pre .0) (s .pre .1) (after-if1 .if1 .left) in
     let v = ap (λ (x : ℕ). s .args .here .label + x) (after-feet-of .feet-of .ensures) in
     let none = after-if2 .if2 .left in
-    (leads (labelled none (sym (after-is-usable .is-usable .ensures) ∙ after-if3 .if3 .taken) (ap (set (s .args .best .now) (s .args .entry - 1)) v) refl) (omega (arith, after-if1 .if1 .left)), settling-without (fair (s .pre .0)) (s .pre .2) (B .inside) v none (spent-at _ _ _ (after-finish-of .finish-of .ensures .is) (c .before .if4 .taken)))
+    let usable = sym (after-is-usable .is-usable .ensures) ∙ after-if3 .if3 .taken in
+    record {
+      offered = leads (labelled none usable (ap (set (s .args .best .now) (s .args .entry - 1)) v) refl) (omega (arith, after-if1 .if1 .left));
+      settling =
+          settling-without (fair (s .pre .0)) (s .pre .2) (B .inside) v none
+          (spent-at _ _ _ (after-finish-of .finish-of .ensures .is) (c .before .if4 .taken));
+    }
 
 cast-write-label : tie.Need-cast-write-label
 cast-write-label c =
@@ -127,14 +133,14 @@ write-label-requires c κs =
     let s = after-before .before in
     let B = behind (s .pre .0) (s .pre .1) (after-if1 .if1 .left) in
     let F = fair (s .pre .0) in
-    let v = ap (λ (x : ℕ). s .args .here .label + x) (after-feet-of .feet-of .ensures) in (
-      F .small,
-      B .inside,
-      s .pre .2 .long,
-      s .pre .2 .long′,
-      s .pre .2 .queued .queue,
-      settling-free F (s .pre .2) (B .inside) v (after-if2 .if2 .left),
-    )
+    let v = ap (λ (x : ℕ). s .args .here .label + x) (after-feet-of .feet-of .ensures) in
+    record {
+      small = F .small;
+      inside = B .inside;
+      room = record { best-fits = s .pre .2 .long; previous-fits = s .pre .2 .long′ };
+      queue = s .pre .2 .queued .queue;
+      not-earlier = settling-free F (s .pre .2) (B .inside) v (after-if2 .if2 .left);
+    }
 
 same-length-3 : tie.Need-same-length-3
 same-length-3 c = search needs
@@ -159,14 +165,24 @@ returns-4 c =
     let B = behind (s .pre .0) (s .pre .1) (after-if1 .if1 .left) in
     let W = after-write-label .write-label .ensures in
     let v = ap (λ (x : ℕ). s .args .here .label + x) (after-feet-of .feet-of .ensures) in
-    (leads (labelled (after-if2 .if2 .left) (sym (after-is-usable .is-usable .ensures) ∙ after-if3 .if3 .taken) (W .best-is ∙ ap (set (s .args .best .now) (s .args .entry - 1)) v) (W .previous-is)) (omega (arith, after-if1 .if1 .left)), rw (W .best-is, W .previous-is) (settling-more (fair (s .pre .0)) (s .pre .2) (B .inside) v (W .queued)))
+    let usable = sym (after-is-usable .is-usable .ensures) ∙ after-if3 .if3 .taken in
+    record {
+      offered =
+          leads
+          (labelled (after-if2 .if2 .left) usable (W .best-is ∙ ap (set (s .args .best .now) (s .args .entry - 1)) v) (W .previous-is))
+          (omega (arith, after-if1 .if1 .left));
+      settling = rw (W .best-is, W .previous-is) (settling-more (fair (s .pre .0)) (s .pre .2) (B .inside) v (W .queued));
+    }
 
 returns-5 : tie.Need-returns-5
 returns-5 c =
     let after-if1 = c .before .before .before .before in
     let after-before = after-if1 .before .before .before .before in
     let s = after-before .before in
-    (leads (barred (sym (c .before .is-usable .ensures) ∙ c .if3 .left) refl refl) (omega (arith, after-if1 .if1 .left)), s .pre .2)
+    record {
+      offered = leads (barred (sym (c .before .is-usable .ensures) ∙ c .if3 .left) refl refl) (omega (arith, after-if1 .if1 .left));
+      settling = s .pre .2;
+    }
 
 pub relax-leg-spec : {M : Type 1} → statement M
 relax-leg-spec =

@@ -6,13 +6,15 @@ use lib.ListN.{length}
 use Rattle.lists.specs.Lists.{at}
 use Rattle.streets.specs.Bicycle.{bicycle}
 use Rattle.search_relaxing.specs.Steps.Town.{arrivesAt, townGraph}
-use Rattle.search_relaxing.specs.Steps.Left.{Left, spentOf}
+use Rattle.search_relaxing.specs.Steps.Left.{Left}
+use Rattle.search_relaxing.specs.Steps.Unfound.{spentOf}
 use Rattle.search_labels.proofs.Invariant.{unsettled}
 use Rattle.search_labels.proofs.Queueing.{queued-none-spent}
 use Rattle.search_labels.proofs.Rounds.{Search, search-begins, search-due, search-stops, search-ends, search-more, search-less}
 use Rattle.streets.proofs.LeavingLaws.{node-small}
 use Rattle.search_relaxing.proofs.TownLaws.{run-of, fair}
-use Rattle.search_relaxing.proofs.LeftLaws.{left-apart, left-begun, left-spent, noted-elsewhere}
+use Rattle.search_relaxing.proofs.LeftLaws.{left-apart, left-begun, left-spent}
+use Rattle.search_relaxing.proofs.UnfoundLaws.{noted-elsewhere}
 use native.Mathlib.Omega.{arith}
 use borrow.Author.Needs.{needs}
 use Rattle.search_rounds.proofs.search.search_to.Statement.{statement}

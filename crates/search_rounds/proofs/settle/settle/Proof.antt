@@ -3,7 +3,7 @@
 -- Assumes nothing.
 use Rattle.search_labels.proofs.Queueing.{settling-begins, settling-ends}
 use Rattle.search_relaxing.proofs.TownLaws.{run-of, fair}
-use Rattle.search_relaxing.proofs.LeftLaws.{spread-all, spread-only}
+use Rattle.search_relaxing.proofs.UnfoundLaws.{spread-all, spread-only}
 use borrow.Author.Needs.{needs}
 use Rattle.search_rounds.proofs.settle.settle.Statement.{statement}
 use Rattle.search_rounds.proofs.settle.settle.Tie as tie

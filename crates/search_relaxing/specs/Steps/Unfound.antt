@@ -1,7 +1,7 @@
--- What is left to find at a node: which usable runs that leave it may still be without a label. It is one number for each node: 0 says nothing; 1 + a
--- leg, that every usable run has its label but, it may be, the one that leaves by that leg; `nothing` or more, that every one has. A run that arrives
--- where nothing is left to find is spent. Where the run that is settled comes from such a node, the run back there is spent: it is given a label as if a
--- bicycle could turn back, whether it may be ridden or not, which no route does and no search needs, and nothing is left at the node then.
+-- What is still to find at a node: which usable runs that leave it may be without a label. It is one number for each node: 0 says nothing; 1 + a leg, that
+-- every usable run has its label but, it may be, the one that leaves by that leg; `nothing` or more, that every one has. A run that arrives where nothing
+-- is to find is spent. Where the run that is settled comes from such a node, the run back there is spent: it is given a label as if a bicycle could turn
+-- back, whether it may be ridden or not, which no route does and no search needs, and nothing is to find at the node then.
 -- Assumes nothing.
 use mathlib.Core.Path.{_≡_}
 use mathlib.Core.Bool.{Bool, true, _&&_, _||_}
@@ -23,24 +23,24 @@ abbrev pub nothing : ℕ
 nothing = 9
 
 -- Before the search no number says anything.
-pub record Unknown (left : List ℕ) : Type 0 where
-  pub long : 1000 ≤ length left
-  pub none : (v : ℕ) → v < 1000 → at left v ≡ 0
+pub record Unknown (unfound : List ℕ) : Type 0 where
+  pub long : 1000 ≤ length unfound
+  pub none : (v : ℕ) → v < 1000 → at unfound v ≡ 0
 
 -- The numbers are right.
-pub record Left (net : List ℕ) (t n : ℕ) (best left : List ℕ) : Type 0 where
-  pub long : 1000 ≤ length left
-  pub labelled : (r : ℕ) → r < n → usable (bicycle net) t r ≡ true → (at left (start net r) ≡ 0 → ⊥)
-      → (at left (start net r) ≡ leavingLeg net r + 1 → ⊥) → at best r < unlabelled
+pub record Unfound (net : List ℕ) (t n : ℕ) (best unfound : List ℕ) : Type 0 where
+  pub long : 1000 ≤ length unfound
+  pub labelled : (r : ℕ) → r < n → usable (bicycle net) t r ≡ true → (at unfound (start net r) ≡ 0 → ⊥)
+      → (at unfound (start net r) ≡ leavingLeg net r + 1 → ⊥) → at best r < unlabelled
 
 unfoldable pub spentOf : List ℕ → List ℕ → ℕ → Bool
-spentOf net left r = leb nothing (at left (finish net r))
+spentOf net unfound r = leb nothing (at unfound (finish net r))
 
--- A round has noted what is left at the node where run u arrives, and nowhere else.
-pub record Noted (net : List ℕ) (t n u : ℕ) (best′ left left′ : List ℕ) : Type 0 where
-  pub right : Left net t n best′ left′
-  pub elsewhere : (v : ℕ) → (v ≡ finish net u → ⊥) → at left′ v ≡ at left v
-  pub grows : (r : ℕ) → r < n → spentOf net left r ≡ true → spentOf net left′ r ≡ true
+-- A round has noted what is still to find at the node where run u arrives, and nowhere else.
+pub record Noted (net : List ℕ) (t n u : ℕ) (best′ unfound unfound′ : List ℕ) : Type 0 where
+  pub right : Unfound net t n best′ unfound′
+  pub elsewhere : (v : ℕ) → (v ≡ finish net u → ⊥) → at unfound′ v ≡ at unfound v
+  pub grows : (r : ℕ) → r < n → spentOf net unfound r ≡ true → spentOf net unfound′ r ≡ true
 
 -- Run u arrives at a node by a leg.
 pub record Arrives (net : List ℕ) (u node leg : ℕ) : Type 0 where
@@ -81,10 +81,10 @@ turnsBack net u r = eqb (start net r) (finish net u) && eqb (leavingLeg net r) (
 abbrev pub leadsOf : List ℕ → ℕ → Bool → ℕ → ℕ → Bool
 leadsOf net t back u r = edgeOf (bicycle net) t u r || (back && turnsBack net u r)
 
--- The edges from u are relaxed, and what is left where it arrives is noted. A way back is relaxed only where it leads to a spent run.
-pub record Spread (net : List ℕ) (t n u base : ℕ) (best previous left best′ previous′ tree′ left′ : List ℕ) : Type 0 where
+-- The edges from u are relaxed, and what is still to find where it arrives is noted. A way back is relaxed only where it leads to a spent run.
+pub record Spread (net : List ℕ) (t n u base : ℕ) (best previous unfound best′ previous′ tree′ unfound′ : List ℕ) : Type 0 where
   pub back : Bool
-  pub only : (r : ℕ) → r < n → back ≡ true → turnsBack net u r ≡ true → spentOf net left′ r ≡ true
+  pub only : (r : ℕ) → r < n → back ≡ true → turnsBack net u r ≡ true → spentOf net unfound′ r ≡ true
   pub relaxed : Relaxed (leadsOf net t back) (feetOf net) n u base best previous best′ previous′
-  pub settling : Settling n mostRunFeet u base (spentOf net left′) best′ previous′ tree′
-  pub noted : Noted net t n u best′ left left′
+  pub settling : Settling n mostRunFeet u base (spentOf net unfound′) best′ previous′ tree′
+  pub noted : Noted net t n u best′ unfound unfound′

@@ -1,9 +1,9 @@
--- What is left to find at a node. Labels are never taken away, so what is said of a node stays true. A run from which every movement is within the
--- tolerance leads on by an edge to every usable run of the node, but for the one by the leg of its own arrival: after it only that leg may be left, and
--- after it where one other leg was left, nothing. Where nothing is left every edge from an arriving run leads to a labelled run: the run is spent. So is
--- the run back where nothing is left at the node that the first run came from: labelling it too leaves nothing here. At the start nothing is left from
--- the first, since its usable runs are the sources. At the goal's node, another one, nothing is ever noted, since a run that arrives there is not
--- settled: no goal is spent.
+-- What is still to find at a node. Labels are never taken away, so what is said of a node stays true. A run from which every movement is within the
+-- tolerance leads on by an edge to every usable run of the node, but for the one by the leg of its own arrival: after it only that leg may be to find, and
+-- after it where one other leg was to find, nothing. Where nothing is to find every edge from an arriving run leads to a labelled run: the run is spent. So
+-- is the run back where nothing is to find at the node that the first run came from: labelling it too leaves nothing to find here. At the start nothing is
+-- to find from the first, since its usable runs are the sources. At the goal's node, another one, nothing is ever noted, since a run that arrives there is
+-- not settled: no goal is spent.
 -- Assumes nothing.
 use mathlib.Core.Path.{_≡_, refl, sym, _∙_, ap}
 use mathlib.Core.Bool.{Bool, true, false, true≢false, _&&_, _||_}
@@ -28,8 +28,8 @@ use Rattle.search_labels.specs.Steps.Relax.{Visit, barred, Offer, Relaxed, kept
 use Rattle.search_labels.specs.Steps.Begin.{firstLabel, Begun}
 use Rattle.search_relaxing.specs.Steps.Town.{arrivesAt, mostRunFeet, Town, townGraph, usable}
 use Rattle.search_labels.specs.Steps.Search.{Spent, Settling}
-use Rattle.search_relaxing.specs.Steps.Left.{nothing}
-use Rattle.search_relaxing.specs.Steps.Left.{Unknown, Left, spentOf, Noted, Arrives, EveryExit, RightOnly, RunBehind, toEach, Way, turnsBack, leadsOf, Spread}
+use Rattle.search_relaxing.specs.Steps.Unfound.{nothing}
+use Rattle.search_relaxing.specs.Steps.Unfound.{Unknown, Unfound, spentOf, Noted, Arrives, EveryExit, RightOnly, RunBehind, toEach, Way, turnsBack, leadsOf, Spread}
 use Rattle.search_labels.proofs.Queueing.{settling-spent, settling-without}
 use Rattle.search_labels.proofs.Exits.{offer-as, relaxed-one, relaxed-as, relaxed-both}
 use Rattle.streets.proofs.LeavingLaws.{node-small, start-below, leaving-below, entry-leaves, leaving-at, back-ends}
@@ -37,19 +37,19 @@ use Rattle.search_relaxing.proofs.TownLaws.{run-of, fair, run-behind}
 use Rattle.search_relaxing.proofs.TestLaws.{source-usable, edge-onward, turns-back, is-back, right-by, every-edge, way-every, way-right}
 
 -- a run that arrives where nothing is left
-pub spent-at : (net left : List ℕ) (r : ℕ) {node : ℕ} → node ≡ finish net r → nothing ≤ at left node → spentOf net left r ≡ true
+pub spent-at : (net unfound : List ℕ) (r : ℕ) {node : ℕ} → node ≡ finish net r → nothing ≤ at unfound node → spentOf net unfound r ≡ true
 unfolding spentOf
-spent-at net left r e h = le-leb nothing (at left (finish net r)) (omega (arith, ap (at left) e))
+spent-at net unfound r e h = le-leb nothing (at unfound (finish net r)) (omega (arith, ap (at unfound) e))
 
 -- where the run that is settled arrives elsewhere, what is noted of a node stays
-pub noted-elsewhere : {net : List ℕ} {t n u : ℕ} {best left left′ : List ℕ} → Noted net t n u best left left′ → (to : ℕ) → arrivesAt (bicycle net) to u ≡ false
-    → at left to ≡ 0 → at left′ to ≡ 0
+pub noted-elsewhere : {net : List ℕ} {t n u : ℕ} {best unfound unfound′ : List ℕ} → Noted net t n u best unfound unfound′ → (to : ℕ) → arrivesAt (bicycle net) to u ≡ false
+    → at unfound to ≡ 0 → at unfound′ to ≡ 0
 unfolding arrivesAt
 noted-elsewhere {net} {u = u} N to away z = N .elsewhere to (λ (e : to ≡ finish net u). eqb-false (finish net u) to away (sym e)) ∙ z
 
 -- and at first, where nothing is noted but at the start, of any other node
-pub left-apart : (from : ℕ) {to : ℕ} {left : List ℕ} → Unknown left → (from ≡ to → ⊥) → to < 1000 → at (set left from nothing) to ≡ 0
-left-apart from {to} {left} U apart few = getD-set-other left from to nothing 0 (λ (e : to ≡ from). apart (sym e)) ∙ U .none to few
+pub unfound-apart : (from : ℕ) {to : ℕ} {unfound : List ℕ} → Unknown unfound → (from ≡ to → ⊥) → to < 1000 → at (set unfound from nothing) to ≡ 0
+unfound-apart from {to} {unfound} U apart few = getD-set-other unfound from to nothing 0 (λ (e : to ≡ from). apart (sym e)) ∙ U .none to few
 
 -- ---- edges and ways back
 module _ (net : List ℕ) (t : ℕ) (back : Bool) (u r : ℕ) where
@@ -60,10 +60,10 @@ module _ (net : List ℕ) (t : ℕ) (back : Bool) (u r : ℕ) where
   leads-back b e = or-right (edgeOf (bicycle net) t u r) (true-and back (turnsBack net u r) b e)
 
 -- no way back is relaxed
-pub spread-edges : {net : List ℕ} {t n u base : ℕ} {best previous left best′ previous′ tree′ left′ : List ℕ}
+pub spread-edges : {net : List ℕ} {t n u base : ℕ} {best previous unfound best′ previous′ tree′ unfound′ : List ℕ}
     → Relaxed (edgeOf (bicycle net) t) (feetOf net) n u base best previous best′ previous′
-    → Settling n mostRunFeet u base (spentOf net left′) best′ previous′ tree′ → Noted net t n u best′ left left′
-    → Spread net t n u base best previous left best′ previous′ tree′ left′
+    → Settling n mostRunFeet u base (spentOf net unfound′) best′ previous′ tree′ → Noted net t n u best′ unfound unfound′
+    → Spread net t n u base best previous unfound best′ previous′ tree′ unfound′
 spread-edges {net} {t} {u = u} R S N =
     record {
       back = false;
@@ -78,12 +78,12 @@ spread-edges {net} {t} {u = u} R S N =
     or-false false = refl
 
 -- what is relaxed is every edge, and beside them only ways to spent runs
-module _ {net : List ℕ} {t n u base : ℕ} {best previous left best′ previous′ tree′ left′ : List ℕ}
-    (S : Spread net t n u base best previous left best′ previous′ tree′ left′) where
+module _ {net : List ℕ} {t n u base : ℕ} {best previous unfound best′ previous′ tree′ unfound′ : List ℕ}
+    (S : Spread net t n u base best previous unfound best′ previous′ tree′ unfound′) where
   pub spread-all : (r : ℕ) → r < n → edgeOf (bicycle net) t u r ≡ true → leadsOf net t (S .back) u r ≡ true
   spread-all r l e = leads-edge net t (S .back) u r e
 
-  pub spread-only : (r : ℕ) → r < n → leadsOf net t (S .back) u r ≡ true → (edgeOf (bicycle net) t u r ≡ true) ⊎ (spentOf net left′ r ≡ true)
+  pub spread-only : (r : ℕ) → r < n → leadsOf net t (S .back) u r ≡ true → (edgeOf (bicycle net) t u r ≡ true) ⊎ (spentOf net unfound′ r ≡ true)
   spread-only r l e =
       ⊎-elim
       (λ (s : edgeOf (bicycle net) t u r ≡ true). inl s)
@@ -94,10 +94,10 @@ module _ {net : List ℕ} {t n u base : ℕ} {best previous left best′ previou
 
 module _ {net : List ℕ} {n : ℕ} (T : Town net n) where
   -- at first every usable run that leaves the start has its label, and nothing is left there
-  pub left-begun : (t from : ℕ) {best previous left : List ℕ} → Unknown left → Begun (townGraph net n t from) best previous
-      → Left net t n best (set left from nothing)
+  pub unfound-begun : (t from : ℕ) {best previous unfound : List ℕ} → Unknown unfound → Begun (townGraph net n t from) best previous
+      → Unfound net t n best (set unfound from nothing)
   unfolding firstLabel
-  left-begun t from {best} {previous} {left} U B =
+  unfound-begun t from {best} {previous} {unfound} U B =
       record {
         long = simp length-set (U .long);
         labelled = λ r l s said other.
@@ -109,56 +109,56 @@ module _ {net : List ℕ} {n : ℕ} (T : Town net n) where
             (λ (e : start net r ≡ from → ⊥).
             absurd
             (said
-            (getD-set-other left from (start net r) nothing 0 e
+            (getD-set-other unfound from (start net r) nothing 0 e
             ∙ U .none (start net r) (node-small net (T .network) (start-below (run-of T l))))))
             (eq-or-ne (start net r) from);
       }
 
-  spent-closed : {t : ℕ} {best left : List ℕ} → Left net t n best left → (p r : ℕ) → nothing ≤ at left (finish net p) → r < n
+  spent-closed : {t : ℕ} {best unfound : List ℕ} → Unfound net t n best unfound → (p r : ℕ) → nothing ≤ at unfound (finish net p) → r < n
       → edgeOf (bicycle net) t p r ≡ true → at best r < unlabelled
-  spent-closed {t} {best} {left} L p r s l e =
+  spent-closed {t} {best} {unfound} L p r s l e =
       let O = edge-onward net t p r e in
-      let h : nothing ≤ at left (start net r) = rw (O .from) s in
-      L .labelled r l (O .rideable) (λ (k : at left (start net r) ≡ 0). omega arith)
-      (λ (k : at left (start net r) ≡ leavingLeg net r + 1). omega (arith, leaving-below (run-of T l)))
+      let h : nothing ≤ at unfound (start net r) = rw (O .from) s in
+      L .labelled r l (O .rideable) (λ (k : at unfound (start net r) ≡ 0). omega arith)
+      (λ (k : at unfound (start net r) ≡ leavingLeg net r + 1). omega (arith, leaving-below (run-of T l)))
 
   -- what the theory of the search asks of spent runs
-  pub left-spent : {t : ℕ} {best left : List ℕ} (from to : ℕ) → Left net t n best left → at left to ≡ 0
-      → Spent (townGraph net n t from) (arrivesAt (bicycle net) to) (spentOf net left) best
+  pub unfound-spent : {t : ℕ} {best unfound : List ℕ} (from to : ℕ) → Unfound net t n best unfound → at unfound to ≡ 0
+      → Spent (townGraph net n t from) (arrivesAt (bicycle net) to) (spentOf net unfound) best
   unfolding spentOf arrivesAt
-  left-spent {t} {best} {left} from to L z =
+  unfound-spent {t} {best} {unfound} from to L z =
       record {
-        closed = λ p r l s l′ e. spent-closed L p r (leb-true nothing (at left (finish net p)) s) l′ e;
+        closed = λ p r l s l′ e. spent-closed L p r (leb-true nothing (at unfound (finish net p)) s) l′ e;
         aside = λ r l s.
             ne-eqb (finish net r) to
-            (λ (k : finish net r ≡ to). omega (arith, leb-true nothing (at left (finish net r)) s, ap (at left) k, z));
+            (λ (k : finish net r ≡ to). omega (arith, leb-true nothing (at unfound (finish net r)) s, ap (at unfound) k, z));
       }
 
   -- where nothing is left, every edge leads to a labelled run
-  pub nothing-left : {t u node leg : ℕ} {best left : List ℕ} → Arrives net u node leg → Left net t n best left → nothing ≤ at left node
+  pub none-unfound : {t u node leg : ℕ} {best unfound : List ℕ} → Arrives net u node leg → Unfound net t n best unfound → nothing ≤ at unfound node
       → (r : ℕ) → r < n → unlabelled ≤ at best r → edgeOf (bicycle net) t u r ≡ true → ⊥
-  nothing-left {t} {u} {left = left} A L h r l none e =
-      omega (arith, spent-closed L u r (omega (arith, ap (at left) (A .at-node .is))) l e)
+  none-unfound {t} {u} {unfound = unfound} A L h r l none e =
+      omega (arith, spent-closed L u r (omega (arith, ap (at unfound) (A .at-node .is))) l e)
 
   -- more is said of a node where something was left: no run is spent less
-  spent-grows : (left : List ℕ) (node x : ℕ) → at left node < nothing → (r : ℕ) → r < n → spentOf net left r ≡ true → spentOf net (set left node x) r ≡ true
+  spent-grows : (unfound : List ℕ) (node x : ℕ) → at unfound node < nothing → (r : ℕ) → r < n → spentOf net unfound r ≡ true → spentOf net (set unfound node x) r ≡ true
   unfolding spentOf
-  spent-grows left node x some r l s =
-      let h = leb-true nothing (at left (finish net r)) s in
+  spent-grows unfound node x some r l s =
+      let h = leb-true nothing (at unfound (finish net r)) s in
       ⊎-elim
-      (λ (e : finish net r ≡ node). absurd (omega (arith, h, ap (at left) e)))
-      (λ (e : finish net r ≡ node → ⊥). le-leb nothing (at (set left node x) (finish net r)) (omega (arith, h, getD-set-other left node (finish net r) x 0 e)))
+      (λ (e : finish net r ≡ node). absurd (omega (arith, h, ap (at unfound) e)))
+      (λ (e : finish net r ≡ node → ⊥). le-leb nothing (at (set unfound node x) (finish net r)) (omega (arith, h, getD-set-other unfound node (finish net r) x 0 e)))
       (eq-or-ne (finish net r) node)
 
   -- ---- a round at the run u
-  module _ {t u base node leg : ℕ} {leads : ℕ → ℕ → Bool} {best previous best′ previous′ left : List ℕ} (A : Arrives net u node leg)
-      (L : Left net t n best left) (R : Relaxed leads (feetOf net) n u base best previous best′ previous′) (room : base + mostRunFeet < unlabelled) where
+  module _ {t u base node leg : ℕ} {leads : ℕ → ℕ → Bool} {best previous best′ previous′ unfound : List ℕ} (A : Arrives net u node leg)
+      (L : Unfound net t n best unfound) (R : Relaxed leads (feetOf net) n u base best previous best′ previous′) (room : base + mostRunFeet < unlabelled) where
     -- a labelled run stays labelled
     stays : (r : ℕ) → r < n → at best r < unlabelled → at best′ r < unlabelled
     stays r l h = omega (arith, R .kept r l h .0)
 
     -- nothing new is said
-    pub noted-same : Noted net t n u best′ left left
+    pub noted-same : Noted net t n u best′ unfound unfound
     noted-same =
         record {
           right = record { long = L .long; labelled = λ r l s some other. stays r l (L .labelled r l s some other) };
@@ -167,9 +167,9 @@ module _ {net : List ℕ} {n : ℕ} (T : Town net n) where
         }
 
     -- something is said of the node, where something was left
-    noted-set : (x : ℕ) → at left node < nothing
+    noted-set : (x : ℕ) → at unfound node < nothing
         → ((r : ℕ) → r < n → usable (bicycle net) t r ≡ true → start net r ≡ node → (leavingLeg net r + 1 ≡ x → ⊥) → at best′ r < unlabelled)
-        → Noted net t n u best′ left (set left node x)
+        → Noted net t n u best′ unfound (set unfound node x)
     noted-set x some H =
         record {
           right =
@@ -178,20 +178,20 @@ module _ {net : List ℕ} {n : ℕ} (T : Town net n) where
                 labelled = λ r l s said other.
                     ⊎-elim
                     (λ (e : start net r ≡ node).
-                    let here : at (set left node x) (start net r) ≡ x = rw e (getD-set-same left node x 0 (omega (arith, A .at-node .few, L .long))) in
+                    let here : at (set unfound node x) (start net r) ≡ x = rw e (getD-set-same unfound node x 0 (omega (arith, A .at-node .few, L .long))) in
                     H r l s e (λ (k : leavingLeg net r + 1 ≡ x). other (here ∙ sym k)))
                     (λ (e : start net r ≡ node → ⊥).
-                    let same = getD-set-other left node (start net r) x 0 e in
+                    let same = getD-set-other unfound node (start net r) x 0 e in
                     stays r l
-                    (L .labelled r l s (λ (k : at left (start net r) ≡ 0). said (same ∙ k))
-                    (λ (k : at left (start net r) ≡ leavingLeg net r + 1). other (same ∙ k))))
+                    (L .labelled r l s (λ (k : at unfound (start net r) ≡ 0). said (same ∙ k))
+                    (λ (k : at unfound (start net r) ≡ leavingLeg net r + 1). other (same ∙ k))))
                     (eq-or-ne (start net r) node);
               };
-          elsewhere = λ v e. getD-set-other left node v x 0 (λ (k : v ≡ node). e (k ∙ A .at-node .is));
-          grows = spent-grows left node x some;
+          elsewhere = λ v e. getD-set-other unfound node v x 0 (λ (k : v ≡ node). e (k ∙ A .at-node .is));
+          grows = spent-grows unfound node x some;
         }
 
-    module _ (every : EveryExit net t u) (some : at left node < nothing) (all : (r : ℕ) → edgeOf (bicycle net) t u r ≡ true → leads u r ≡ true) where
+    module _ (every : EveryExit net t u) (some : at unfound node < nothing) (all : (r : ℕ) → edgeOf (bicycle net) t u r ≡ true → leads u r ≡ true) where
       reached : (r : ℕ) → r < n → leads u r ≡ true → at best′ r < unlabelled
       reached r l e =
           ⊎-elim
@@ -208,7 +208,7 @@ module _ {net : List ℕ} {n : ℕ} (T : Town net n) where
 
       -- so where the one by the leg of arrival has its own, nothing is left
       noted-nothing : ((r : ℕ) → r < n → usable (bicycle net) t r ≡ true → start net r ≡ node → leavingLeg net r ≡ leg → at best′ r < unlabelled)
-          → Noted net t n u best′ left (set left node nothing)
+          → Noted net t n u best′ unfound (set unfound node nothing)
       noted-nothing own =
           noted-set nothing some
           (λ r l s from k.
@@ -217,21 +217,21 @@ module _ {net : List ℕ} {n : ℕ} (T : Town net n) where
           (λ (j : leavingLeg net r ≡ leg → ⊥). others-labelled r l s from j)
           (eq-or-ne (leavingLeg net r) leg))
 
-      pub noted-others : Noted net t n u best′ left (set left node (1 + leg))
+      pub noted-others : Noted net t n u best′ unfound (set unfound node (1 + leg))
       noted-others = noted-set (1 + leg) some (λ r l s from k. others-labelled r l s from (λ (j : leavingLeg net r ≡ leg). k (omega arith)))
 
       -- it had its label before
-      pub noted-last : (at left node ≡ 0 → ⊥) → (at left node ≡ leg + 1 → ⊥) → Noted net t n u best′ left (set left node nothing)
+      pub noted-last : (at unfound node ≡ 0 → ⊥) → (at unfound node ≡ leg + 1 → ⊥) → Noted net t n u best′ unfound (set unfound node nothing)
       noted-last said apart =
           noted-nothing
           (λ r l s from j.
-          let here : at left (start net r) ≡ at left node = ap (at left) from in
+          let here : at unfound (start net r) ≡ at unfound node = ap (at unfound) from in
           stays r l
-          (L .labelled r l s (λ (z : at left (start net r) ≡ 0). said (sym here ∙ z))
-          (λ (z : at left (start net r) ≡ leavingLeg net r + 1). apart (omega arith))))
+          (L .labelled r l s (λ (z : at unfound (start net r) ≡ 0). said (sym here ∙ z))
+          (λ (z : at unfound (start net r) ≡ leavingLeg net r + 1). apart (omega arith))))
 
       -- it is labelled as the way back
-      noted-back : ((r : ℕ) → turnsBack net u r ≡ true → leads u r ≡ true) → Noted net t n u best′ left (set left node nothing)
+      noted-back : ((r : ℕ) → turnsBack net u r ≡ true → leads u r ≡ true) → Noted net t n u best′ unfound (set unfound node nothing)
       noted-back too = noted-nothing (λ r l s from j. reached r l (too r (sym (is-back net u r (from ∙ A .at-node .is) (j ∙ A .by-leg .is)))))
 
   -- ---- at which entries the edges from u lead on
@@ -287,61 +287,61 @@ module _ {net : List ℕ} {n : ℕ} (T : Town net n) where
         is-back net u r (E .from ∙ A .at-node .is) (E .by ∙ A .by-leg .is)
 
     -- it ends where u began: where nothing is left there, it is spent
-    back-spent : (left : List ℕ) {came : ℕ} → u < n → came ≡ start net u → nothing ≤ at left came → (r : ℕ) → r < n → turnsBack net u r ≡ true
-        → spentOf net left r ≡ true
-    back-spent left l is none r k e =
+    back-spent : (unfound : List ℕ) {came : ℕ} → u < n → came ≡ start net u → nothing ≤ at unfound came → (r : ℕ) → r < n → turnsBack net u r ≡ true
+        → spentOf net unfound r ≡ true
+    back-spent unfound l is none r k e =
         let B = turns-back net u r e in
-        spent-at net left r (is ∙ sym (back-ends net (T .network) I (run-of T l) (run-of T k) (B .from) (B .by))) none
+        spent-at net unfound r (is ∙ sym (back-ends net (T .network) I (run-of T l) (run-of T k) (B .from) (B .by))) none
 
     -- so it may be labelled after the edges, and stays out of the queue
-    back-out : (left : List ℕ) {base came : ℕ} {best previous tree best′ previous′ : List ℕ} → came ≡ start net u → nothing ≤ at left came
-        → Settling n mostRunFeet u base (spentOf net left) best previous tree
+    back-out : (unfound : List ℕ) {base came : ℕ} {best previous tree best′ previous′ : List ℕ} → came ≡ start net u → nothing ≤ at unfound came
+        → Settling n mostRunFeet u base (spentOf net unfound) best previous tree
         → Offer (turnsBack net) (feetOf net) u base (at index (node * 8 + leg)) best previous best′ previous′
-        → Settling n mostRunFeet u base (spentOf net left) best′ previous′ tree
-    back-out left is none S (free z e e′) = rw (e, e′) S
-    back-out left {base} {came} {best} {previous} {tree} {best′} {previous′} is none S (leads {r} v x) = visited v
+        → Settling n mostRunFeet u base (spentOf net unfound) best′ previous′ tree
+    back-out unfound is none S (free z e e′) = rw (e, e′) S
+    back-out unfound {base} {came} {best} {previous} {tree} {best′} {previous′} is none S (leads {r} v x) = visited v
       where
         visited : Visit (turnsBack net) (feetOf net) u base r best previous best′ previous′
-            → Settling n mostRunFeet u base (spentOf net left) best′ previous′ tree
+            → Settling n mostRunFeet u base (spentOf net unfound) best′ previous′ tree
         visited (kept h e e′) = rw (e, e′) S
         visited (barred h e e′) = rw (e, e′) S
         visited (labelled h s e e′) =
             let l = back-behind r x in
-            rw (e, e′) (settling-without (fair T) S l refl h (back-spent left (S .inside) is none r l s))
+            rw (e, e′) (settling-without (fair T) S l refl h (back-spent unfound (S .inside) is none r l s))
 
-    pub spread-back : {t base came : ℕ} {best previous best₁ previous₁ tree₁ best₂ previous₂ left : List ℕ} → EveryExit net t u
-        → Left net t n best left → at left node < nothing → came ≡ start net u → nothing ≤ at left came
+    pub spread-back : {t base came : ℕ} {best previous best₁ previous₁ tree₁ best₂ previous₂ unfound : List ℕ} → EveryExit net t u
+        → Unfound net t n best unfound → at unfound node < nothing → came ≡ start net u → nothing ≤ at unfound came
         → Relaxed (edgeOf (bicycle net) t) (feetOf net) n u base best previous best₁ previous₁
-        → Settling n mostRunFeet u base (spentOf net left) best₁ previous₁ tree₁
+        → Settling n mostRunFeet u base (spentOf net unfound) best₁ previous₁ tree₁
         → Offer toEach (feetOf net) u base (at index (node * 8 + leg)) best₁ previous₁ best₂ previous₂
-        → Spread net t n u base best previous left best₂ previous₂ tree₁ (set left node nothing)
-    spread-back {t} {left = left} every L some is none R S₁ O =
-        let grows = spent-grows left node nothing some in
+        → Spread net t n u base best previous unfound best₂ previous₂ tree₁ (set unfound node nothing)
+    spread-back {t} {unfound = unfound} every L some is none R S₁ O =
+        let grows = spent-grows unfound node nothing some in
         let both : Relaxed (leadsOf net t true) _ _ _ _ _ _ _ _ =
         relaxed-both (λ r l. omega (arith, fair T .short r l, S₁ .room)) R
         (relaxed-one (λ r l h e. back-at r l e) back-behind (S₁ .long) (S₁ .long′) (offer-as back-offer O)) in
         record {
           back = true;
-          only = λ r l b e. grows r l (back-spent left (S₁ .inside) is none r l e);
+          only = λ r l b e. grows r l (back-spent unfound (S₁ .inside) is none r l e);
           relaxed = both;
-          settling = settling-spent grows (back-out left is none S₁ (offer-as back-offer O));
+          settling = settling-spent grows (back-out unfound is none S₁ (offer-as back-offer O));
           noted = noted-back A L both (S₁ .room) every some (leads-edge net t true u) (λ r. leads-back net t true u r refl);
         }
 
     -- where one leg is left, an edge to a run without a label leads by that leg
-    module _ {t : ℕ} {best left : List ℕ} (exit : ℕ) (L : Left net t n best left) (one : at left node ≡ exit + 1) where
+    module _ {t : ℕ} {best unfound : List ℕ} (exit : ℕ) (L : Unfound net t n best unfound) (one : at unfound node ≡ exit + 1) where
       pub last-by : (r : ℕ) → r < n → unlabelled ≤ at best r → edgeOf (bicycle net) t u r ≡ true → leavingLeg net r ≡ exit
       last-by r l none e =
           let O = edge-onward net t u r e in
-          let here : at left (start net r) ≡ exit + 1 = ap (at left) (O .from ∙ sym (A .at-node .is)) ∙ one in
+          let here : at unfound (start net r) ≡ exit + 1 = ap (at unfound) (O .from ∙ sym (A .at-node .is)) ∙ one in
           ⊎-elim
           (λ (j : leavingLeg net r ≡ exit). j)
           (λ (j : leavingLeg net r ≡ exit → ⊥).
           absurd
           (omega (
             arith,
-            L .labelled r l (O .rideable) (λ (z : at left (start net r) ≡ 0). omega arith)
-                (λ (z : at left (start net r) ≡ leavingLeg net r + 1). j (omega arith)),
+            L .labelled r l (O .rideable) (λ (z : at unfound (start net r) ≡ 0). omega arith)
+                (λ (z : at unfound (start net r) ≡ leavingLeg net r + 1). j (omega arith)),
           )))
           (eq-or-ne (leavingLeg net r) exit)
 

@@ -1,0 +1,87 @@
+-- Each branch of the code is one of the definition's: its tests are answered by what was branched on.
+-- Assumes nothing.
+use mathlib.Core.Path.{refl, sym}
+use borrow.Author.Tests.{eq-eqb, ne-eqb, le-leb, lt-leb}
+use Rattle.search_relaxing.specs.Steps.Choice.{everyLeg}
+use native.Mathlib.Omega.{arith}
+use borrow.Author.Needs.{needs}
+use Rattle.search_relaxing.proofs.relax.every_leg.Statement.{statement}
+use Rattle.search_relaxing.proofs.relax.every_leg.Tie as tie
+use Rattle.search_relaxing.proofs.relax.every_leg.Reads as reads
+use Rattle.search_relaxing.proofs.relax.every_leg.Lts as lts
+use Rattle.search_relaxing.proofs.relax.no_legs.Reads as no-legs-reads
+use Rattle.streets.proofs.runs.start_of.Reads as start-of-reads
+
+-- src/relax.rt:85:31
+start-of-requires : tie.Need-start-of-requires
+start-of-requires c κs = search needs
+
+-- src/relax.rt:85:23
+element-copy-out-if2 : tie.Need-element-copy-out-if2
+element-copy-out-if2 c = search needs
+
+-- src/relax.rt:87:24
+add-t13 : tie.Need-add-t13
+add-t13 c = search needs
+
+-- src/relax.rt:86:13
+returns : tie.Need-returns
+unfolding everyLeg
+returns c = rw (eq-eqb _ _ (c .before .before .before .if1 .taken), sym (c .before .before .start-of .ensures .is), le-leb _ _ (c .if2 .taken)) refl
+
+-- src/relax.rt:94:20
+add-t8 : tie.Need-add-t8
+add-t8 c = search needs
+
+-- src/relax.rt:97:23
+cast-t11 : tie.Need-cast-t11
+cast-t11 c = search needs
+
+-- src/relax.rt:97:19
+add-t14 : tie.Need-add-t14
+add-t14 c = search needs
+
+-- src/relax.rt:93:9
+returns-2 : tie.Need-returns-2
+unfolding everyLeg
+returns-2 c = rw (eq-eqb _ _ (c .before .before .before .if1 .taken), sym (c .before .before .start-of .ensures .is), lt-leb _ _ (c .if2 .left)) refl
+
+-- src/relax.rt:100:17
+sub-last : tie.Need-sub-last
+sub-last c = search needs
+
+-- src/relax.rt:100:16
+cast-last : tie.Need-cast-last
+cast-last c = search needs
+
+-- src/relax.rt:102:9
+no-legs-requires : tie.Need-no-legs-requires
+no-legs-requires c κs = search needs
+
+-- src/relax.rt:102:9
+returns-3 : tie.Need-returns-3
+unfolding everyLeg
+returns-3 c = rw (ne-eqb _ _ (c .before .before .if1 .left), eq-eqb _ _ (c .before .if3 .taken)) (c .no-legs .ensures)
+
+-- src/relax.rt:79:1
+returns-4 : tie.Need-returns-4
+unfolding everyLeg
+returns-4 c = rw (ne-eqb _ _ (c .before .if1 .left), ne-eqb _ _ (c .if3 .left)) refl
+
+pub every-leg-spec : {M : Type 1} → statement M
+every-leg-spec =
+    tie.close
+    (tie.spec
+    start-of-requires
+    element-copy-out-if2
+    add-t13
+    returns
+    add-t8
+    cast-t11
+    add-t14
+    returns-2
+    sub-last
+    cast-last
+    no-legs-requires
+    returns-3
+    returns-4)
