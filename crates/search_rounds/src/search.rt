@@ -37,8 +37,9 @@ fn search_to(
     requires { ⌜ Sought (now net) (now index) ask to × Room (ask .runs) (now best) (now previous) × Unused (ask .runs) (now tree) (now unfound) ⌝ }
     ensures { λ r. ⌜ Stop (askedGraph (now (net .entry)) ask) (arrivesAt (bicycle (now (net .entry))) to) (now (best .exit)) (now (previous .exit)) r ⌝ }
 {
+    let from = ask.from;
     begin(net, index, ask, best, previous, tree);
-    unfound[ask.from] = NOTHING;
+    unfound[from] = NOTHING;
     let mut key = least(ask.runs, tree);
     while key < TOP {
         if arrives_at(net, to, run_in(key)) {

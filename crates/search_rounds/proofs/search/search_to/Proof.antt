@@ -1,139 +1,142 @@
--- At first nothing is left to find at `from`, whose usable runs are labelled. Between the rounds the record `Search` holds at the next key, the numbers of
--- what is left are right, and nothing is noted of `to`. A round settles one run more, so the loop ends; it stops where the next run arrives at `to`, or where no labelled run is left.
+-- At first nothing is to find at the start, whose usable runs are labelled. Between the rounds `Between` holds at the next key. A round settles one run more,
+-- so the loop ends; it stops where the next run arrives at `to`, or where no labelled run is left.
 -- Assumes nothing.
-use mathlib.Core.Path.{_≡_, refl, sym, _∙_}
-use lib.ListN.{length}
-use Rattle.lists.specs.Lists.{at}
-use Rattle.streets.specs.Bicycle.{bicycle}
-use Rattle.search_relaxing.specs.Steps.Town.{arrivesAt, townGraph}
-use Rattle.search_relaxing.specs.Steps.Left.{Left}
-use Rattle.search_relaxing.specs.Steps.Unfound.{spentOf}
+use mathlib.Core.Path.{refl, sym, _∙_}
+use Rattle.streets.proofs.LeavingLaws.{node-small}
 use Rattle.search_labels.proofs.Invariant.{unsettled}
 use Rattle.search_labels.proofs.Queueing.{queued-none-spent}
-use Rattle.search_labels.proofs.Rounds.{Search, search-begins, search-due, search-stops, search-ends, search-more, search-less}
-use Rattle.streets.proofs.LeavingLaws.{node-small}
+use Rattle.search_labels.proofs.Rounds.{search-begins, search-due, search-stops, search-ends, search-more, search-less}
 use Rattle.search_relaxing.proofs.TownLaws.{run-of, fair}
-use Rattle.search_relaxing.proofs.LeftLaws.{left-apart, left-begun, left-spent}
-use Rattle.search_relaxing.proofs.UnfoundLaws.{noted-elsewhere}
+use Rattle.search_relaxing.proofs.UnfoundLaws.{unfound-apart, unfound-begun, unfound-spent, noted-elsewhere}
+use Rattle.search_rounds.proofs.Between.{Between}
 use native.Mathlib.Omega.{arith}
 use borrow.Author.Needs.{needs}
 use Rattle.search_rounds.proofs.search.search_to.Statement.{statement}
 use Rattle.search_rounds.proofs.search.search_to.Tie as tie
 
 abbrev Inv-loop : tie.InvT-loop
-Inv-loop net index n tolerance from to best₀ previous₀ tree₀ left₀ key₀ best previous tree left key =
-    (length best ≡ length best₀)
-    × (length previous ≡ length previous₀)
-    × (length tree ≡ length tree₀)
-    × Search (townGraph net n tolerance from) (arrivesAt (bicycle net) to) (spentOf net left) best previous tree key
-    × Left net tolerance n best left
-    × (at left to ≡ 0)
+Inv-loop net index ask to best₀ previous₀ tree₀ unfound₀ from key₀ best previous tree unfound key = Between net ask to best₀ previous₀ tree₀ best previous tree unfound key
 
 abbrev μ-loop : tie.MeasureT-loop
-μ-loop net index n tolerance from to best₀ previous₀ tree₀ left₀ key₀ best previous tree left key = unsettled best n key
+μ-loop net index ask to best₀ previous₀ tree₀ unfound₀ from key₀ best previous tree unfound key = unsettled best (ask .runs) key
 
+-- src/search.rt:41:5
 begin-requires : tie.Need-begin-requires Inv-loop μ-loop
 begin-requires c κs =
     let s = c .before .before .before .before .before .before .before in
-    (s .pre .0, s .pre .1, s .pre .2, s .pre .5, s .pre .6, s .pre .7)
+    (s .pre .0 .ready, s .pre .1, s .pre .2 .empty)
 
-element-write-left : tie.Need-element-write-left Inv-loop μ-loop
-element-write-left c =
+-- src/search.rt:42:5
+element-write-unfound : tie.Need-element-write-unfound Inv-loop μ-loop
+element-write-unfound c =
     let s = c .before .before .before .before .before .before .before .before .before .before .before .before .before .before in
-    node-small (s .args .net .now) (s .pre .0 .network) (s .pre .2)
+    node-small (s .args .net .now) (s .pre .0 .ready .town .network) (s .pre .0 .ready .from-node)
 
+-- src/search.rt:43:9
 least-requires : tie.Need-least-requires Inv-loop μ-loop
-least-requires c κs = c .before .before .before .before .before .before .before .begin .ensures .1 .queue
+least-requires c κs = c .before .before .before .before .before .before .before .begin .ensures .queued .queue
 
+-- src/search.rt:44:5
 loop-holds : tie.Need-loop-holds Inv-loop μ-loop
 loop-holds c =
-    let b = c .before .before .before .before .before .before .before .before .begin in
     let s = c .before .before .before .before .before .before .before .before .before .before .before .before .before .before .before .before in
-    let L = left-begun (s .pre .0) (s .args .tolerance) (s .args .from) (s .pre .8) (b .ensures .0) in
-    let z = left-apart (s .args .from) (s .pre .8) (s .pre .4) (node-small (s .args .net .now) (s .pre .0 .network) (s .pre .3)) in (
-      refl,
-      refl,
-      refl,
-      search-begins (fair (s .pre .0)) (left-spent (s .pre .0) (s .args .from) (s .args .to) L z) (b .ensures .0)
-          (omega (arith, s .pre .5, b .kept .1 .1 .1 .1 .1 .0)) (omega (arith, s .pre .6, b .kept .1 .1 .1 .1 .1 .1 .0))
-          (queued-none-spent (b .ensures .1)) (c .least .ensures),
-      L,
-      z,
-    )
+    let R = s .pre .0 .ready in
+    let b = c .before .before .before .before .before .before .before .before .begin in
+    let U = unfound-begun (R .town) (s .args .ask .tolerance) (s .args .ask .from) (s .pre .2 .unknown) (b .ensures .labels) in
+    let z =
+    unfound-apart (s .args .ask .from) (s .pre .2 .unknown) (s .pre .0 .apart) (node-small (s .args .net .now) (R .town .network) (s .pre .0 .to-node)) in
+    record {
+      best-long = refl;
+      previous-long = refl;
+      tree-long = refl;
+      search =
+          search-begins (fair (R .town)) (unfound-spent (R .town) (s .args .ask .from) (s .args .to) U z) (b .ensures .labels)
+          (omega (arith, s .pre .1 .best-fits, b .kept .1 .1 .1 .0)) (omega (arith, s .pre .1 .previous-fits, b .kept .1 .1 .1 .1 .0))
+          (queued-none-spent (b .ensures .queued)) (c .least .ensures);
+      right = U;
+      unnoted = z;
+    }
 
+-- src/search.rt:45:32
+run-in-requires : tie.Need-run-in-requires Inv-loop μ-loop
+run-in-requires c κs = search needs
+
+-- src/search.rt:45:12
 arrives-at-requires : tie.Need-arrives-at-requires Inv-loop μ-loop
 arrives-at-requires c κs =
-    let s = c .before .before .before .before .before .before .before .before .before .before .before .before .before .before .before .before .before .before in
-    run-of (s .pre .0) (c .before .loop .inv .3 .whose (c .loop-test .taken) .inside)
+    let s = c .before .before .before .before .before .before .before .before .before .before .before .before .before .before .before .before .before .before .before in
+    run-of (s .pre .0 .ready .town) (omega (arith, c .run-in .ensures, c .before .before .loop .inv .search .whose (c .before .loop-test .taken) .inside))
 
+-- src/search.rt:46:13
 same-length : tie.Need-same-length Inv-loop μ-loop
 same-length c = search needs
 
+-- src/search.rt:46:13
 same-length-2 : tie.Need-same-length-2 Inv-loop μ-loop
 same-length-2 c = search needs
 
+-- src/search.rt:46:13
 same-length-3 : tie.Need-same-length-3 Inv-loop μ-loop
 same-length-3 c = search needs
 
+-- src/search.rt:46:13
 returns : tie.Need-returns Inv-loop μ-loop
 returns c =
-    let after-loop = c .before .before .before in
-    let s = after-loop .before .before .before .before .before .before .before .before .before .before .before .before .before .before .before .before .before in
-    let i = after-loop .loop .inv in
-    search-stops (fair (s .pre .0)) (i .3) (left-spent (s .pre .0) (s .args .from) (s .args .to) (i .4) (i .5)) (c .before .before .loop-test .taken)
-    (sym (c .before .arrives-at .ensures) ∙ c .if1 .taken)
+    let s = c .before .before .before .before .before .before .before .before .before .before .before .before .before .before .before .before .before .before .before .before .before in
+    let i = c .before .before .before .before .loop .inv in
+    let T = s .pre .0 .ready .town in
+    search-stops (fair T) (i .search) (unfound-spent T (s .args .ask .from) (s .args .to) (i .right) (i .unnoted)) (c .before .before .before .loop-test .taken)
+    (rw (c .before .before .run-in .ensures) at (sym (c .before .arrives-at .ensures) ∙ c .if1 .taken))
 
+-- src/search.rt:48:9
 settle-requires : tie.Need-settle-requires Inv-loop μ-loop
 settle-requires c κs =
-    let after-loop-test = c .before .before .before .before .before .before in
-    let after-loop = after-loop-test .before in
-    let s = after-loop .before .before .before .before .before .before .before .before .before .before .before .before .before .before .before .before .before in
-    (s .pre .0, s .pre .1, search-due (fair (s .pre .0)) (after-loop .loop .inv .3) (after-loop-test .loop-test .taken), after-loop .loop .inv .4)
+    let R = c .before .before .before .before .before .before .before .before .before .before .before .before .before .before .before .before .before .before .before .before .before .before .before .before .before .pre .0 .ready in
+    let i = c .before .before .before .before .before .before .before .before .loop .inv in
+    (R, (search-due (fair (R .town)) (i .search) (c .before .before .before .before .before .before .before .loop-test .taken), i .right))
 
+-- src/search.rt:44:5
 loop-less : tie.Need-loop-less Inv-loop μ-loop
 loop-less c =
-    let after-settle = c .before .before .before .before .before .before in
-    let after-loop-test = after-settle .before .before .before .before .before .before .before in
-    let after-loop = after-loop-test .before in
-    let s = after-loop .before .before .before .before .before .before .before .before .before .before .before .before .before .before .before .before .before in
-    search-less (fair (s .pre .0)) (after-loop .loop .inv .3) (after-loop-test .loop-test .taken) (after-settle .settle .ensures .0)
+    search-less (fair (c .before .before .before .before .before .before .before .before .before .before .before .before .before .before .before .before .before .before .before .before .before .before .before .before .before .before .before .before .before .before .before .before .pre .0 .ready .town)) (c .before .before .before .before .before .before .before .before .before .before .before .before .before .before .before .loop .inv .search) (c .before .before .before .before .before .before .before .before .before .before .before .before .before .before .loop-test .taken) (c .before .before .before .before .before .before .settle .ensures .round)
 
+-- src/search.rt:44:5
 loop-again : tie.Need-loop-again Inv-loop μ-loop
 loop-again c =
-    let after-settle = c .before .before .before .before .before .before in
-    let after-if1 = after-settle .before .before .before .before .before in
-    let after-arrives-at = after-if1 .before in
-    let after-loop-test = after-arrives-at .before in
-    let after-loop = after-loop-test .before in
-    let s = after-loop .before .before .before .before .before .before .before .before .before .before .before .before .before .before .before .before .before in
-    let i = after-loop .loop .inv in
-    let o = after-settle .settle in
-    let N = o .ensures .1 in
-    let away = sym (after-arrives-at .arrives-at .ensures) ∙ after-if1 .if1 .left in
-    let z = noted-elsewhere N (s .args .to) away (i .5) in (
-      o .kept .1 .1 .1 .1 .1 .0 ∙ i .0,
-      o .kept .1 .1 .1 .1 .1 .1 .0 ∙ i .1,
-      o .kept .1 .1 .1 .1 .1 .1 .1 .0 ∙ i .2,
-      search-more (fair (s .pre .0)) (i .3) (after-loop-test .loop-test .taken) (o .ensures .0)
-          (left-spent (s .pre .0) (s .args .from) (s .args .to) (i .4) (i .5)) (N .grows)
-          (left-spent (s .pre .0) (s .args .from) (s .args .to) (N .right) z) away,
-      N .right,
-      z,
-    )
+    let s = c .before .before .before .before .before .before .before .before .before .before .before .before .before .before .before .before .before .before .before .before .before .before .before .before .before .before .before .before .before .before .before .before in
+    let T = s .pre .0 .ready .town in
+    let i = c .before .before .before .before .before .before .before .before .before .before .before .before .before .before .before .loop .inv in
+    let o = c .before .before .before .before .before .before .settle in
+    let N = o .ensures .noted in
+    let away = rw (c .before .before .before .before .before .before .before .before .before .before .before .before .before .run-in .ensures) at (sym (c .before .before .before .before .before .before .before .before .before .before .before .before .arrives-at .ensures) ∙ c .before .before .before .before .before .before .before .before .before .before .before .if1 .left) in
+    let z = noted-elsewhere N (s .args .to) away (i .unnoted) in
+    record {
+      best-long = o .kept .1 .1 .1 .1 .0 ∙ i .best-long;
+      previous-long = o .kept .1 .1 .1 .1 .1 .0 ∙ i .previous-long;
+      tree-long = o .kept .1 .1 .1 .1 .1 .1 .0 ∙ i .tree-long;
+      search =
+          search-more (fair T) (i .search) (c .before .before .before .before .before .before .before .before .before .before .before .before .before .before .loop-test .taken) (o .ensures .round)
+          (unfound-spent T (s .args .ask .from) (s .args .to) (i .right) (i .unnoted)) (N .grows)
+          (unfound-spent T (s .args .ask .from) (s .args .to) (N .right) z) away;
+      right = N .right;
+      unnoted = z;
+    }
 
+-- src/search.rt:27:1
 same-length-4 : tie.Need-same-length-4 Inv-loop μ-loop
 same-length-4 c = search needs
 
+-- src/search.rt:27:1
 same-length-5 : tie.Need-same-length-5 Inv-loop μ-loop
 same-length-5 c = search needs
 
+-- src/search.rt:27:1
 same-length-6 : tie.Need-same-length-6 Inv-loop μ-loop
 same-length-6 c = search needs
 
+-- src/search.rt:27:1
 returns-2 : tie.Need-returns-2 Inv-loop μ-loop
-returns-2 c =
-    let s = c .before .before .before .before .before .before .before .before .before .before .before .before .before .before .before .before .before .before in
-    search-ends (fair (s .pre .0)) (c .before .loop .inv .3) (c .loop-test .left)
+returns-2 c = search-ends (fair (c .before .before .before .before .before .before .before .before .before .before .before .before .before .before .before .before .before .before .pre .0 .ready .town)) (c .before .loop .inv .search) (c .loop-test .left)
 
 pub search-to-spec : {M : Type 1} → statement M
 search-to-spec =
@@ -142,9 +145,10 @@ search-to-spec =
     Inv-loop
     μ-loop
     begin-requires
-    element-write-left
+    element-write-unfound
     least-requires
     loop-holds
+    run-in-requires
     arrives-at-requires
     same-length
     same-length-2
