@@ -45,7 +45,7 @@ pub fn find(
     }
     let last = run_in(key);
     let count = count_runs(previous, ask.runs, last);
-    let level = route_level(net, index, ask, previous, last, count);
+    let level = route_level(net, index, ask.runs, previous, last, count);
     fill(previous, ask.runs, last, count, &mut buffer[place..]);
     Finding::Found(Found {
         count,

@@ -9,10 +9,9 @@ ghost use Rattle.routes.specs.Steps.Labels.{chain};
 ghost use Rattle.routes.specs.Routes.{levelOf};
 ghost use Rattle.streets.specs.Runs.{RunOf};
 ghost use Rattle.streets.specs.Bicycle.{bicycle, movementLevel};
-ghost use Rattle.search_relaxing.specs.Steps.Town.{mostRuns, Ready};
-ghost use Rattle.search_routes.specs.Steps.Trace.{Traced, Ends, Fillable};
+ghost use Rattle.search_relaxing.specs.Steps.Town.{mostRuns};
+ghost use Rattle.search_routes.specs.Steps.Trace.{Traced, Ends, Fillable, Levellable};
 use search_labels::NONE;
-use search_relaxing::Ask;
 use streets::movements::arrival_of;
 use streets::movements::level_onto;
 use streets::runs::leaving_leg;
@@ -59,12 +58,12 @@ fn movement_level(net: &[u8], index: &[u16; 8000], run: usize, next: usize) -> u
 pub fn route_level(
     net: &[u8],
     index: &[u16; 8000],
-    ask: Ask,
+    n: usize,
     previous: &[u32],
     last: usize,
     count: usize,
 ) -> u8
-    requires { ⌜ Ready (now net) (now index) ask × (ask .runs ≤ length (now previous)) × Traced (ask .runs) (at (now previous)) last count ⌝ }
+    requires { ⌜ Levellable (now net) (now index) n (now previous) last count ⌝ }
     ensures { λ r. ⌜ r ≡ levelOf (bicycle (now (net .entry))) (chain (at (now (previous .entry))) count last []) ⌝ }
 {
     let mut level = run_level(net, last);

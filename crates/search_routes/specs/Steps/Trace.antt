@@ -5,7 +5,8 @@ use Prim.Native.Nat.{ℕ, _≤_}
 use lib.ListN.{length}
 use Rattle.lists.specs.Lists.{at}
 use Rattle.routes.specs.Steps.Labels.{Depth}
-use Rattle.search_relaxing.specs.Steps.Town.{mostRuns}
+use Rattle.network.specs.Steps.Corners.{cornersOf, Indexed}
+use Rattle.search_relaxing.specs.Steps.Town.{mostRuns, Town}
 
 -- The chain of `previous` from r has k runs, at most n.
 pub record Traced (n : ℕ) (previous : ℕ → ℕ) (r k : ℕ) : Type 0 where
@@ -21,4 +22,11 @@ pub record Fillable (n : ℕ) (previous : List ℕ) (r k : ℕ) (tail : List ℕ
   pub few : n ≤ mostRuns
   pub long : n ≤ length previous
   pub fits : k ≤ length tail
+  pub traced : Traced n (at previous) r k
+
+-- The level of the chain of k runs from r may be told: it is one of runs of a network.
+pub record Levellable (net index : List ℕ) (n : ℕ) (previous : List ℕ) (r k : ℕ) : Type 0 where
+  pub town : Town net n
+  pub indexed : Indexed (cornersOf net) index
+  pub long : n ≤ length previous
   pub traced : Traced n (at previous) r k

@@ -9,13 +9,13 @@ use Rattle.search_routes.proofs.trace.fill.Statement.{statement}
 use Rattle.search_routes.proofs.trace.fill.Tie as tie
 
 abbrev Inv-loop : tie.InvT-loop
-Inv-loop previous n last count tail₀ left₀ run₀ tail left run = Filled n (at previous) count last tail₀ left run tail
+Inv-loop previous n last count tail₀ place₀ run₀ tail place run = Filled n (at previous) count last tail₀ place run tail
 
 abbrev μ-loop : tie.MeasureT-loop
-μ-loop previous n last count tail₀ left₀ run₀ tail left run = left
+μ-loop previous n last count tail₀ place₀ run₀ tail place run = place
 
 loop-holds : tie.Need-loop-holds Inv-loop μ-loop
-loop-holds c = filled-none (c .pre .3) _
+loop-holds c = filled-none (c .pre .traced) _
 
 cast-tail : tie.Need-cast-tail Inv-loop μ-loop
 cast-tail c = omega (arith, filled-inside (c .before .loop .inv) (c .loop-test .taken))
@@ -38,14 +38,14 @@ shared-slice-read-run c = omega (arith, filled-inside (c .before .before .loop .
 cast-run : tie.Need-cast-run Inv-loop μ-loop
 cast-run c = omega (arith, c .shared-slice-known .given (c .before .before .loop .run))
 
-sub-left : tie.Need-sub-left Inv-loop μ-loop
-sub-left c = search needs
+sub-place : tie.Need-sub-place Inv-loop μ-loop
+sub-place c = search needs
 
 loop-less : tie.Need-loop-less Inv-loop μ-loop
 loop-less c = search needs
 
 loop-again : tie.Need-loop-again Inv-loop μ-loop
-loop-again c = filled-more (c .before .before .loop .inv) (c .before .loop-test .taken) (c .before .before .before .pre .2)
+loop-again c = filled-more (c .before .before .loop .inv) (c .before .loop-test .taken) (c .before .before .before .pre .fits)
 
 same-length : tie.Need-same-length Inv-loop μ-loop
 same-length c = search needs
@@ -67,7 +67,7 @@ fill-spec =
     mul-run
     shared-slice-read-run
     cast-run
-    sub-left
+    sub-place
     loop-less
     loop-again
     same-length

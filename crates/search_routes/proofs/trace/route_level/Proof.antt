@@ -14,19 +14,19 @@ use Rattle.search_routes.proofs.trace.route_level.Statement.{statement}
 use Rattle.search_routes.proofs.trace.route_level.Tie as tie
 
 abbrev Inv-loop : tie.InvT-loop
-Inv-loop net index n previous last count level₀ next₀ left₀ level next left = Levelled (bicycle net) n (at previous) count last left next level
+Inv-loop net index n previous last count level₀ next₀ before₀ level next before = Levelled (bicycle net) n (at previous) count last before next level
 
 abbrev μ-loop : tie.MeasureT-loop
-μ-loop net index n previous last count level₀ next₀ left₀ level next left = left
+μ-loop net index n previous last count level₀ next₀ before₀ level next before = before
 
 run-level-requires : tie.Need-run-level-requires Inv-loop μ-loop
-run-level-requires c κs = run-of (c .before .before .pre .0) (traced-some (c .before .before .pre .3) .1)
+run-level-requires c κs = run-of (c .before .before .pre .town) (traced-some (c .before .before .pre .traced) .1)
 
-sub-left : tie.Need-sub-left Inv-loop μ-loop
-sub-left c = omega (arith, traced-some (c .before .before .before .pre .3) .0)
+sub-before : tie.Need-sub-before Inv-loop μ-loop
+sub-before c = omega (arith, traced-some (c .before .before .before .pre .traced) .0)
 
 loop-holds : tie.Need-loop-holds Inv-loop μ-loop
-loop-holds c = levelled-one _ (c .before .before .before .pre .3) (c .run-level .ensures)
+loop-holds c = levelled-one _ (c .before .before .before .pre .traced) (c .run-level .ensures)
 
 mul-run : tie.Need-mul-run Inv-loop μ-loop
 mul-run c = search needs
@@ -41,7 +41,7 @@ movement-level-requires : tie.Need-movement-level-requires Inv-loop μ-loop
 movement-level-requires c κs =
     let s = c .before .before .before .before .before .before in
     let H = c .before .before .loop .inv in
-    (run-of (s .pre .0) (levelled-inside H (c .before .loop-test .taken)), run-of (s .pre .0) (H .inside), s .pre .1)
+    (run-of (s .pre .town) (levelled-inside H (c .before .loop-test .taken)), run-of (s .pre .town) (H .inside), s .pre .indexed)
 
 greater-requires : tie.Need-greater-requires Inv-loop μ-loop
 greater-requires c κs = search needs
@@ -51,13 +51,13 @@ run-level-requires-2 c κs =
     let after-loop-test = c .before .before .before in
     let after-loop = after-loop-test .before in
     let start = after-loop .before .before .before .before in
-    run-of (start .pre .0) (levelled-inside (after-loop .loop .inv) (after-loop-test .loop-test .taken))
+    run-of (start .pre .town) (levelled-inside (after-loop .loop .inv) (after-loop-test .loop-test .taken))
 
 greater-requires-2 : tie.Need-greater-requires-2 Inv-loop μ-loop
 greater-requires-2 c κs = search needs
 
-sub-left-2 : tie.Need-sub-left-2 Inv-loop μ-loop
-sub-left-2 c = search needs
+sub-before-2 : tie.Need-sub-before-2 Inv-loop μ-loop
+sub-before-2 c = search needs
 
 loop-less : tie.Need-loop-less Inv-loop μ-loop
 loop-less c = search needs
@@ -81,7 +81,7 @@ route-level-spec =
     Inv-loop
     μ-loop
     run-level-requires
-    sub-left
+    sub-before
     loop-holds
     mul-run
     shared-slice-read-run
@@ -90,7 +90,7 @@ route-level-spec =
     greater-requires
     run-level-requires-2
     greater-requires-2
-    sub-left-2
+    sub-before-2
     loop-less
     loop-again
     returns)
