@@ -24,6 +24,9 @@ use streets::runs::start_of;
 // Nothing is to find at a node. A number below it is 1 + the one leg that is to find, or 0 where any may be.
 pub const NOTHING: u8 = 9;
 
+// The legs of a node but for the leg of arrival.
+const OTHERS: usize = 7;
+
 // A number for each node: nothing is known of any.
 pub fn all_unknown() -> [u8; 1000]
     ensures { λ r. ⌜ Unknown r ⌝ }
@@ -85,14 +88,14 @@ fn every_leg(net: &[u8], here: Reached, rest: u8, unfound: &[u8; 1000]) -> Choic
         if NOTHING <= unfound[start_of(net, here.run)] {
             return Choice {
                 first: leg + 1,
-                count: 7,
+                count: OTHERS,
                 back: true,
                 rest: NOTHING,
             };
         }
         return Choice {
             first: leg + 1,
-            count: 7,
+            count: OTHERS,
             back: false,
             rest: 1 + leg as u8,
         };
@@ -193,26 +196,26 @@ fn label_back(
     index: &[u16; 8000],
     ask: Ask,
     here: Reached,
-    back: bool,
+    asked: bool,
     best: &mut [u32],
     previous: &mut [u32],
 )
     requires { ⌜ Ready (now net) (now index) ask × Reaches (now net) ask here × LabelRoom ask here (now best) (now previous) ⌝ }
-    ensures { λ _. ⌜ BackLabelled (now (net .entry)) (now (index .entry)) here (now (best .entry)) (now (previous .entry)) (now (best .exit)) (now (previous .exit)) back ⌝ }
+    ensures { λ _. ⌜ BackLabelled (now (net .entry)) (now (index .entry)) here (now (best .entry)) (now (previous .entry)) (now (best .exit)) (now (previous .exit)) asked ⌝ }
 {
-    if !back {
+    if !asked {
         return;
     }
     let entry = index[here.node * 8 + here.leg];
     if entry == 0 {
         return;
     }
-    let run = (entry - 1) as usize;
-    if best[run] < NONE {
+    let back = (entry - 1) as usize;
+    if best[back] < NONE {
         return;
     }
-    best[run] = here.label + (feet_of(net, run) as u32);
-    previous[run] = here.run as u32;
+    best[back] = here.label + (feet_of(net, back) as u32);
+    previous[back] = here.run as u32;
 }
 
 // Relaxes every edge from a run, and notes what is to find at the node where it arrives.

@@ -32,12 +32,13 @@ pub fn find(
     requires { ⌜ Question (now net) (now index) ask to × Rooms (ask .runs) (now best) (now previous) (now buffer) place ⌝ }
     ensures { λ r. ⌜ Answered (bicycle (now (net .entry))) (ask .tolerance) (ask .from) to place (now (buffer .entry)) (now (buffer .exit)) r ⌝ }
 {
+    let stay = Found {
+        count: 0,
+        length: 0,
+        level: 1,
+    };
     if ask.from == to {
-        return Finding::Found(Found {
-            count: 0,
-            length: 0,
-            level: 1,
-        });
+        return Finding::Found(stay);
     }
     let key = nearest(net, index, ask, to, best, previous);
     if TOP <= key {

@@ -42,12 +42,12 @@ returns-2 : tie.Need-returns-2
 returns-2 c = labelled (not-false _ (c .before .before .before .before .if1 .left)) (free (c .if2 .taken) refl refl)
 
 -- src/relax.rt:210:16
-sub-run : tie.Need-sub-run
-sub-run c = search needs
+sub-back : tie.Need-sub-back
+sub-back c = search needs
 
 -- src/relax.rt:210:15
-cast-run : tie.Need-cast-run
-cast-run c = omega (arith, few-runs (c .before .before .before .before .before .before .before .before .pre .0 .town), behind (c .before .before .before .before .before .before .before .before .pre .0 .town) (back-behind (c .before .before .before .before .before .before .before .before .pre .0 .town) (c .before .before .before .before .before .before .before .before .pre .0 .indexed) (c .before .before .before .before .before .before .before .before .pre .1 .arrives)) (c .if2 .left) .inside)
+cast-back : tie.Need-cast-back
+cast-back c = omega (arith, few-runs (c .before .before .before .before .before .before .before .before .pre .0 .town), behind (c .before .before .before .before .before .before .before .before .pre .0 .town) (back-behind (c .before .before .before .before .before .before .before .before .pre .0 .town) (c .before .before .before .before .before .before .before .before .pre .0 .indexed) (c .before .before .before .before .before .before .before .before .pre .1 .arrives)) (c .if2 .left) .inside)
 
 -- src/relax.rt:211:8
 mul-if3 : tie.Need-mul-if3
@@ -133,8 +133,8 @@ label-back-spec =
     mul-entry-2
     element-copy-out-entry
     returns-2
-    sub-run
-    cast-run
+    sub-back
+    cast-back
     mul-if3
     slice-read-if3
     returns-3
