@@ -1,4 +1,4 @@
--- What Route promises of a route that it returns: it stands in the buffer, is a shortest one, and what is told of it is its own.
+-- Document 01, "The calls": the route that a call returns, for any street graph. Which of several shortest routes it is, is free.
 -- Assumes nothing.
 use mathlib.Core.Path.{_≡_}
 use mathlib.Core.List.{List}

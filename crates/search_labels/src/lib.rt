@@ -59,7 +59,8 @@ pub fn write_label(
     tree: &mut [u64],
 )
     requires { ⌜ Labellable n run label (now best) (now previous) (now tree) ⌝ }
-    ensures { λ _. ⌜ LabelWritten n run label before (now (best .entry)) (now (previous .entry)) (now (tree .entry)) (now (best .exit)) (now (previous .exit)) (now (tree .exit)) ⌝ }
+    ensures { λ _. ⌜ LabelWritten n run label before (now (best .entry)) (now (previous .entry)) (now (tree .entry))
+        (now (best .exit)) (now (previous .exit)) (now (tree .exit)) ⌝ }
 {
     best[run] = label;
     previous[run] = before;

@@ -144,8 +144,10 @@ fn relax_leg(
     tree: &mut [u64],
     unfound: &[u8; 1000],
 )
-    requires { ⌜ Town (now net) (ask .runs) × RunBehind (ask .runs) entry × Relaxing (now net) ask here (now unfound) (now best) (now previous) (now tree) ⌝ }
-    ensures { λ _. ⌜ LegRelaxed (now (net .entry)) ask here entry (now (unfound .entry)) (now (best .entry)) (now (previous .entry)) (now (best .exit)) (now (previous .exit)) (now (tree .exit)) ⌝ }
+    requires { ⌜ Town (now net) (ask .runs) × RunBehind (ask .runs) entry
+        × Relaxing (now net) ask here (now unfound) (now best) (now previous) (now tree) ⌝ }
+    ensures { λ _. ⌜ LegRelaxed (now (net .entry)) ask here entry (now (unfound .entry)) (now (best .entry)) (now (previous .entry))
+        (now (best .exit)) (now (previous .exit)) (now (tree .exit)) ⌝ }
 {
     if entry == 0 {
         return;
@@ -178,8 +180,10 @@ fn offer(
     tree: &mut [u64],
     unfound: &[u8; 1000],
 )
-    requires { ⌜ Relaxable (now net) (now index) ask here (now best) (now previous) (now tree) (now unfound) × Chooses (now net) (now index) ask here (now unfound) choice ⌝ }
-    ensures { λ _. ⌜ EdgesRelaxed (now (net .entry)) ask here (now (unfound .entry)) (now (best .entry)) (now (previous .entry)) (now (best .exit)) (now (previous .exit)) (now (tree .exit)) ⌝ }
+    requires { ⌜ Relaxable (now net) (now index) ask here (now best) (now previous) (now tree) (now unfound)
+        × Chooses (now net) (now index) ask here (now unfound) choice ⌝ }
+    ensures { λ _. ⌜ EdgesRelaxed (now (net .entry)) ask here (now (unfound .entry)) (now (best .entry)) (now (previous .entry))
+        (now (best .exit)) (now (previous .exit)) (now (tree .exit)) ⌝ }
 {
     let place = here.node * 8;
     let mut k = 0;
@@ -201,7 +205,8 @@ fn label_back(
     previous: &mut [u32],
 )
     requires { ⌜ Ready (now net) (now index) ask × Reaches (now net) ask here × LabelRoom ask here (now best) (now previous) ⌝ }
-    ensures { λ _. ⌜ BackLabelled (now (net .entry)) (now (index .entry)) here (now (best .entry)) (now (previous .entry)) (now (best .exit)) (now (previous .exit)) asked ⌝ }
+    ensures { λ _. ⌜ BackLabelled (now (net .entry)) (now (index .entry)) here (now (best .entry)) (now (previous .entry))
+        (now (best .exit)) (now (previous .exit)) asked ⌝ }
 {
     if !asked {
         return;
@@ -230,7 +235,8 @@ pub fn relax(
     unfound: &mut [u8; 1000],
 )
     requires { ⌜ Relaxable (now net) (now index) ask here (now best) (now previous) (now tree) (now unfound) ⌝ }
-    ensures { λ _. ⌜ Spreads (now (net .entry)) ask here (now (best .entry)) (now (previous .entry)) (now (unfound .entry)) (now (best .exit)) (now (previous .exit)) (now (tree .exit)) (now (unfound .exit)) ⌝ }
+    ensures { λ _. ⌜ Spreads (now (net .entry)) ask here (now (best .entry)) (now (previous .entry)) (now (unfound .entry))
+        (now (best .exit)) (now (previous .exit)) (now (tree .exit)) (now (unfound .exit)) ⌝ }
 {
     let node = here.node;
     let choice = choose(net, index, ask, here, unfound);

@@ -20,7 +20,8 @@ fn begin_at(
     tree: &mut [u64],
 )
     requires { ⌜ Seedable (now net) ask entry (now best) (now previous) (now tree) ⌝ }
-    ensures { λ _. ⌜ Seeds (now (net .entry)) ask entry (now (best .entry)) (now (previous .entry)) (now (tree .entry)) (now (best .exit)) (now (previous .exit)) (now (tree .exit)) ⌝ }
+    ensures { λ _. ⌜ Seeds (now (net .entry)) ask entry (now (best .entry)) (now (previous .entry)) (now (tree .entry))
+        (now (best .exit)) (now (previous .exit)) (now (tree .exit)) ⌝ }
 {
     if entry == 0 {
         return;

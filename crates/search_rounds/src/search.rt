@@ -35,7 +35,8 @@ fn search_to(
     unfound: &mut [u8; 1000],
 ) -> u64
     requires { ⌜ Sought (now net) (now index) ask to × Room (ask .runs) (now best) (now previous) × Unused (ask .runs) (now tree) (now unfound) ⌝ }
-    ensures { λ r. ⌜ Stop (askedGraph (now (net .entry)) ask) (arrivesAt (bicycle (now (net .entry))) to) (now (best .exit)) (now (previous .exit)) r ⌝ }
+    ensures { λ r. ⌜ Stop (askedGraph (now (net .entry)) ask) (arrivesAt (bicycle (now (net .entry))) to)
+        (now (best .exit)) (now (previous .exit)) r ⌝ }
 {
     let from = ask.from;
     begin(net, index, ask, best, previous, tree);
@@ -67,7 +68,8 @@ pub fn nearest(
     previous: &mut [u32],
 ) -> u64
     requires { ⌜ Sought (now net) (now index) ask to × Room (ask .runs) (now best) (now previous) ⌝ }
-    ensures { λ r. ⌜ Stop (askedGraph (now (net .entry)) ask) (arrivesAt (bicycle (now (net .entry))) to) (now (best .exit)) (now (previous .exit)) r ⌝ }
+    ensures { λ r. ⌜ Stop (askedGraph (now (net .entry)) ask) (arrivesAt (bicycle (now (net .entry))) to)
+        (now (best .exit)) (now (previous .exit)) r ⌝ }
 {
     let mut tree = no_keys();
     let mut unfound = all_unknown();

@@ -23,9 +23,10 @@ pub fn settle(
     tree: &mut [u64],
     unfound: &mut [u8; 1000],
 ) -> u64
-    requires { ⌜ Ready (now net) (now index) ask ⌝ }
-    requires { ⌜ DueNext (now net) ask key (now best) (now previous) (now tree) (now unfound) × Unfound (now net) (ask .tolerance) (ask .runs) (now best) (now unfound) ⌝ }
-    ensures { λ r. ⌜ Settles (now (net .entry)) ask key (now (best .entry)) (now (previous .entry)) (now (unfound .entry)) (now (best .exit)) (now (previous .exit)) (now (tree .exit)) (now (unfound .exit)) r ⌝ }
+    requires { ⌜ Ready (now net) (now index) ask × DueNext (now net) ask key (now best) (now previous) (now tree) (now unfound)
+        × Unfound (now net) (ask .tolerance) (ask .runs) (now best) (now unfound) ⌝ }
+    ensures { λ r. ⌜ Settles (now (net .entry)) ask key (now (best .entry)) (now (previous .entry)) (now (unfound .entry))
+        (now (best .exit)) (now (previous .exit)) (now (tree .exit)) (now (unfound .exit)) r ⌝ }
 {
     let run = run_in(key);
     let label = label_in(key);

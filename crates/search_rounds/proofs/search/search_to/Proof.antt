@@ -93,7 +93,7 @@ settle-requires : tie.Need-settle-requires Inv-loop μ-loop
 settle-requires c κs =
     let R = c .before .before .before .before .before .before .before .before .before .before .before .before .before .before .before .before .before .before .before .before .before .before .before .before .before .pre .0 .ready in
     let i = c .before .before .before .before .before .before .before .before .loop .inv in
-    (R, (search-due (fair (R .town)) (i .search) (c .before .before .before .before .before .before .before .loop-test .taken), i .right))
+    (R, search-due (fair (R .town)) (i .search) (c .before .before .before .before .before .before .before .loop-test .taken), i .right)
 
 -- src/search.rt:44:5
 loop-less : tie.Need-loop-less Inv-loop μ-loop

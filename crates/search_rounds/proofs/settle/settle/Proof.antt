@@ -49,11 +49,11 @@ relax-requires c κs =
       ready = R;
       reaches =
           record {
-            inside = omega (arith, run, s .pre .1 .0 .whose .inside);
+            inside = omega (arith, run, s .pre .1 .whose .inside);
             arrives = record { at-node = c .before .before .before .before .before .finish-of .ensures; by-leg = c .before .before .before .before .arrival-leg .ensures };
           };
-      right = s .pre .1 .1;
-      settling = rw (run, label) (settling-begins (fair (R .town) .small) (s .pre .1 .0) (rw run at (c .before .before .before .before .before .before .before .before .remove .ensures)));
+      right = s .pre .2;
+      settling = rw (run, label) (settling-begins (fair (R .town) .small) (s .pre .1) (rw run at (c .before .before .before .before .before .before .before .before .remove .ensures)));
     }
 
 -- src/settle.rt:40:5
@@ -79,7 +79,7 @@ returns c =
     let S = fair (s .pre .0 .town) .small in
     let r = rw (c .before .before .before .before .before .before .before .before .before .before .before .before .before .before .before .before .before .before .before .before .run-in .ensures, c .before .before .before .before .before .before .before .before .before .before .before .before .before .before .before .before .before .before .before .label-in .ensures) at (c .before .before .before .before .before .before .before .before .relax .ensures) in
     record {
-      round = settling-ends S (s .pre .1 .0) (spread-all r) (spread-only r) (r .relaxed) (r .settling) (c .least .ensures);
+      round = settling-ends S (s .pre .1) (spread-all r) (spread-only r) (r .relaxed) (r .settling) (c .least .ensures);
       noted = r .noted;
     }
 
