@@ -6,18 +6,18 @@ use mathlib.Core.Bool.{Bool, true, false, not, _&&_, and-false}
 use mathlib.Core.Path.{_≡_, refl, sym}
 use mathlib.Core.List.{List, [], _∷_}
 use native.Mathlib.Omega.{arith}
-use borrow.Author.Tests.{leb-true, ltb-true, eqb-true, eq-eqb, ne-eqb}
 use lib.Dec.{leb, ltb, eqb}
 use lib.ListN.{length, getD, drop, drop-of-length-le}
+use borrow.Author.Tests.{leb-true, ltb-true, eqb-true, eq-eqb, ne-eqb}
+use Rattle.lists.specs.Lists.{isEmpty}
 use Rattle.lists.proofs.Facts.{and-true}
-use Rattle.frames.specs.Ranges.{within, headOk, endsOk}
-use Rattle.refusals.specs.Numbers.{numberOf, unless}
+use Rattle.lists.proofs.Lists.{drop-one}
 use Rattle.refusals.specs.declared.Refusal.the-variants.{NotDigits, WrongCheck, WrongFrame}
+use Rattle.refusals.specs.Numbers.{numberOf, unless}
 use Rattle.frames.specs.Edition.{editionOk, mostNodes, mostSegments}
 use Rattle.frames.specs.Frame.{total, checkOk, byte, isFrame, edition, nodes, segments, nodeA, legA, nodeB, legB}
-use Rattle.lists.specs.Lists.{isEmpty}
+use Rattle.frames.specs.Ranges.{within, headOk, endsOk}
 use Rattle.frames.specs.Faults.{framed}
-use Rattle.lists.proofs.Lists.{drop-one}
 use Rattle.frames.proofs.EditionLaws.{nodes-few, segments-few}
 use Rattle.frames.proofs.RangeLaws.{within-high}
 

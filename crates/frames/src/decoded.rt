@@ -1,6 +1,6 @@
 // The decoded values of a segment's frame that stands at a place of a network, read where they stand.
-ghost use mathlib.Core.Path.{_≡_};
 ghost use Prim.Native.Nat.{_+_, _≤_, _<_};
+ghost use mathlib.Core.Path.{_≡_};
 ghost use lib.ListN.{length, take, drop};
 ghost use Rattle.frames.specs.Edition.{frameBytes};
 ghost use Rattle.frames.specs.Frame.{feet};

@@ -1,6 +1,6 @@
 // The bytes of any frame: its fields' widths, its check and its kind.
-ghost use mathlib.Core.Path.{_≡_};
 ghost use Prim.Native.Nat.{_+_, _%_, _≤_, _<_};
+ghost use mathlib.Core.Path.{_≡_};
 ghost use lib.Dec.{eqb};
 ghost use lib.ListN.{length};
 ghost use Rattle.frames.specs.Edition.{frameBytes};

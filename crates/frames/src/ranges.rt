@@ -1,6 +1,6 @@
 // The ranges and rules of a head's and a segment's fields.
-ghost use mathlib.Core.Path.{_≡_};
 ghost use Prim.Native.Nat.{_+_, _≤_, _<_};
+ghost use mathlib.Core.Path.{_≡_};
 ghost use lib.ListN.{length};
 ghost use Rattle.frames.specs.Edition.{frameBytes};
 ghost use Rattle.frames.specs.Ranges.{headOk, endsOk, formOk, crossingOk, turnLaneOk, approachOk, streetOk};

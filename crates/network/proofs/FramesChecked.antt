@@ -7,23 +7,23 @@ use mathlib.Core.Path.{_≡_, refl, sym, ap, ap₂, _∙_, subst}
 use mathlib.Core.List.{List, []}
 use native.Mathlib.Omega.{arith}
 use native.Mathlib.Nat.{sub-zero, mul-zero, mul-le-mul-left}
-use borrow.Author.Tests.{eqb-true, ne-eqb, eq-eqb}
 use lib.Dec.{eqb}
 use lib.ListN.{length, take, drop, length-take}
 use lib.Seq.{drop-drop}
+use borrow.Author.Tests.{eqb-true, ne-eqb, eq-eqb}
 use Rattle.lists.proofs.Facts.{and-true}
+use Rattle.lists.proofs.Lists.{true-is-false, is-false, times-next}
 use Rattle.frames.specs.Edition.{frameBytes}
 use Rattle.frames.specs.Ranges.{headOk}
-use Rattle.network.specs.Legs.{taking}
 use Rattle.frames.specs.Faults.{framed}
+use Rattle.frames.proofs.FrameLaws.{framed-has}
+use Rattle.frames.proofs.FaultLaws.{head-and}
+use Rattle.network.specs.Legs.{taking}
 use Rattle.network.specs.Faults.{segmentFault}
 use Rattle.network.specs.Network.{headOf, editionOf, nodesOf, segmentsOf, framesOk, isNetwork}
 use Rattle.network.specs.Steps.Corners.{Indexed, cornersFrom}
 use Rattle.network.specs.Steps.Checks.{claimed, FramesChecked, Checked, SegmentChecked}
-use Rattle.lists.proofs.Lists.{true-is-false, is-false, times-next}
-use Rattle.frames.proofs.FrameLaws.{framed-has}
 use Rattle.network.proofs.CornerLaws.{corners-few, index-fault, claimed-indexed}
-use Rattle.frames.proofs.FaultLaws.{head-and}
 use Rattle.network.proofs.FaultLaws.{faultless}
 
 -- ---- the loop

@@ -1,6 +1,6 @@
 // Test 8: bytes that Read could keep.
-ghost use mathlib.Core.Path.{_≡_};
 ghost use Prim.Native.Nat.{_+_, _*_, _≤_, _<_};
+ghost use mathlib.Core.Path.{_≡_};
 ghost use mathlib.Core.List.{[]};
 ghost use lib.ListN.{length, drop};
 ghost use Rattle.frames.specs.Edition.{frameBytes};

@@ -6,17 +6,17 @@ use mathlib.Core.Bool.{Bool}
 use mathlib.Core.Path.{_≡_, sym, subst, subst₂}
 use mathlib.Core.List.{List}
 use native.Mathlib.Omega.{arith}
-use borrow.Author.Tests.{ne-eqb}
 use lib.ListN.{length}
+use borrow.Author.Tests.{ne-eqb}
 use Rattle.refusals.specs.declared.Refusal.{Refusal}
 use Rattle.refusals.specs.Numbers.{numberOf}
 use Rattle.refusals.proofs.Positive.{positive}
+use Rattle.frames.specs.Faults.{framed}
+use Rattle.frames.proofs.FrameLaws.{framed-bad}
+use Rattle.network.specs.Steps.Checks.{indexFault}
 use Rattle.text.specs.declared.read.LineRead.{LineRead}
 use Rattle.text.specs.declared.read.LineRead.the-variants.{Frame, Faulty}
-use Rattle.frames.specs.Faults.{framed}
 use Rattle.text.specs.Steps.Lines.{bytesAt, Tells, FrameRead, SegmentJudged}
-use Rattle.network.specs.Steps.Checks.{indexFault}
-use Rattle.frames.proofs.FrameLaws.{framed-bad}
 
 -- a fault leaves the index as it was
 pub judged-faulty : {f : List ℕ} {next e n : ℕ} {more : Bool} {s : ℕ} {d : List ℕ} (fault : Refusal) → indexFault e n more d f ≡ numberOf fault

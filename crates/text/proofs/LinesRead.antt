@@ -7,34 +7,34 @@ use mathlib.Core.Path.{_≡_, refl, sym, ap, _∙_, subst, subst₂}
 use mathlib.Core.List.{List, [], _++_}
 use native.Mathlib.Omega.{arith}
 use native.Mathlib.Nat.{sub-zero, mul-zero}
-use borrow.Author.Tests.{ltb-true, ltb-false}
 use lib.Dec.{ltb}
 use lib.ListN.{length, drop, length-append}
+use borrow.Author.Tests.{ltb-true, ltb-false}
+use Rattle.lists.specs.Lists.{isEmpty}
+use Rattle.lists.proofs.Lists.{drop-some, drop-none, times-next}
 use Rattle.refusals.specs.declared.Refusal.{Refusal}
+use Rattle.refusals.specs.declared.Refusal.the-variants.{WrongCount}
 use Rattle.refusals.specs.Numbers.{numberOf}
 use Rattle.refusals.proofs.Positive.{positive}
-use Rattle.refusals.specs.declared.Refusal.the-variants.{WrongCount}
-use Rattle.text.specs.declared.read.LineRead.{LineRead}
-use Rattle.text.specs.declared.read.LineRead.the-variants.{Frame, Faulty}
-use Rattle.text.specs.declared.ReadAnswer.the-variants.{Refused, Kept}
-use Rattle.digits.specs.Digits.{lineOf, bytesOf, restOf}
 use Rattle.frames.specs.Edition.{frameBytes}
 use Rattle.frames.specs.Frame.{nodes, segments}
 use Rattle.frames.specs.Ranges.{headOk}
+use Rattle.frames.proofs.EditionLaws.{frame-least}
+use Rattle.frames.proofs.FrameLaws.{head-limits}
 use Rattle.network.specs.Legs.{taking}
-use Rattle.text.specs.Read.{Reading, unlessFault, segmentLines, refused, kept}
-use Rattle.lists.specs.Lists.{isEmpty}
 use Rattle.network.specs.Faults.{segmentFault}
 use Rattle.network.specs.Steps.Corners.{Indexed}
 use Rattle.network.specs.Steps.Checks.{claimed, indexFault}
-use Rattle.text.specs.Told.{told, toldOf, written}
-use Rattle.text.specs.Steps.Lines.{bytesAt, SegmentJudged}
-use Rattle.lists.proofs.Lists.{drop-some, drop-none, times-next}
-use Rattle.frames.proofs.EditionLaws.{frame-least}
-use Rattle.digits.proofs.DigitLaws.{line-after}
-use Rattle.frames.proofs.FrameLaws.{head-limits}
 use Rattle.network.proofs.CornerLaws.{corners-few, index-fault, claimed-indexed}
 use Rattle.network.proofs.FaultLaws.{Faultless, faultless}
+use Rattle.digits.specs.Digits.{lineOf, bytesOf, restOf}
+use Rattle.digits.proofs.DigitLaws.{line-after}
+use Rattle.text.specs.declared.read.LineRead.{LineRead}
+use Rattle.text.specs.declared.read.LineRead.the-variants.{Frame, Faulty}
+use Rattle.text.specs.declared.ReadAnswer.the-variants.{Refused, Kept}
+use Rattle.text.specs.Read.{Reading, unlessFault, segmentLines, refused, kept}
+use Rattle.text.specs.Told.{told, toldOf, written}
+use Rattle.text.specs.Steps.Lines.{bytesAt, SegmentJudged}
 use Rattle.text.proofs.LineLaws.{tells-frame, tells-fault}
 
 -- ---- the cases of `segmentLines`

@@ -1,16 +1,16 @@
 // Read: a first pass over the text finds the first fault and writes nothing; a second pass writes the bytes.
+ghost use Prim.Native.Nat.{_+_, _*_, _≤_, _<_};
 ghost use mathlib.Core.Path.{_≡_};
 ghost use mathlib.Core.Bool.{true};
-ghost use Prim.Native.Nat.{_+_, _*_, _≤_, _<_};
 ghost use mathlib.Core.List.{_++_};
 ghost use lib.ListN.{length, drop};
 ghost use Rattle.frames.specs.Edition.{frameBytes};
 ghost use Rattle.frames.specs.Ranges.{headOk};
 ghost use Rattle.frames.specs.Faults.{framed};
 ghost use Rattle.text.specs.Read.{readOf};
+ghost use Rattle.text.specs.Told.{told, toldOf, ReadDid};
 ghost use Rattle.text.specs.Steps.Spelled.{spelledText};
 ghost use Rattle.text.specs.Steps.Lines.{bytesAt, LineDecoded, LineFault, FrameRead, SegmentJudged, linesAfter};
-ghost use Rattle.text.specs.Told.{told, toldOf, ReadDid};
 use crate::ReadAnswer;
 use digits::Scan;
 use digits::decode_into;

@@ -1,18 +1,14 @@
--- What the steps of test 8 promise to each other.
+-- What the functions that judge segments' frames promise one another, in test 8 and in Read: they go by the corner index, where the definitions go by the
+-- legs taken.
 -- Assumes nothing.
 use Prim.Native.Nat.{ℕ, _+_, _*_}
 use mathlib.Core.Bool.{Bool, true, cond, _&&_, not}
 use mathlib.Core.Path.{_≡_}
 use mathlib.Core.List.{List, []}
 use lib.Dec.{eqb}
-use Rattle.refusals.specs.declared.Refusal.the-variants.{WrongField, WrongCount, LegTaken}
-use Rattle.refusals.specs.Numbers.{unless}
-use Rattle.frames.specs.Edition.{frameBytes}
-use Rattle.frames.specs.Frame.{segments}
-use Rattle.frames.specs.Ranges.{endsOk, streetOk}
-use Rattle.frames.specs.Faults.{framed}
 use lib.ListN.{getD, set}
 use Rattle.network.specs.Legs.{cornerA, cornerB}
+use Rattle.network.specs.Faults.{lineFault}
 use Rattle.network.specs.Network.{framesOk, isNetwork}
 use Rattle.network.specs.Steps.Corners.{Indexed, cornersFrom, cornersOf}
 
@@ -28,10 +24,9 @@ pub record Claimed (f : List ℕ) (s : ℕ) (before after : List ℕ) (r : Bool)
   pub answer : r ≡ freeIn before f
   pub index : after ≡ cond (freeIn before f) (claimed before s f) before
 
--- The number of a segment's line by the corner index, in place of the legs taken.
+-- The fault of a segment's line by the corner index, in place of the legs taken.
 abbrev pub indexFault : ℕ → ℕ → Bool → List ℕ → List ℕ → ℕ
-indexFault e n more index f =
-    framed 2 (frameBytes e) f (unless more WrongCount (unless (endsOk n f && streetOk e f) WrongField (unless (freeIn index f) LegTaken 0)))
+indexFault e n more index f = lineFault e n more (freeIn index f) f
 
 -- The frame of segment s judged where it stands in kept bytes.
 pub record SegmentChecked (f : List ℕ) (e n s : ℕ) (before after : List ℕ) (r : Bool) : Type 0 where

@@ -8,13 +8,13 @@ use lib.Dec.{eqb}
 use lib.ListN.{length, drop}
 use Rattle.refusals.specs.declared.Refusal.{Refusal}
 use Rattle.refusals.specs.Numbers.{numberOf}
-use Rattle.text.specs.declared.read.LineRead.{LineRead}
-use Rattle.text.specs.declared.read.LineRead.the-variants.{Frame, Faulty}
-use Rattle.digits.specs.Digits.{lineOf, bytesOf}
 use Rattle.frames.specs.Frame.{edition, nodes, segments}
-use Rattle.text.specs.Read.{Reading, segmentLines}
 use Rattle.frames.specs.Faults.{framed}
 use Rattle.network.specs.Steps.Checks.{claimed, indexFault}
+use Rattle.digits.specs.Digits.{lineOf, bytesOf}
+use Rattle.text.specs.declared.read.LineRead.{LineRead}
+use Rattle.text.specs.declared.read.LineRead.the-variants.{Frame, Faulty}
+use Rattle.text.specs.Read.{Reading, segmentLines}
 
 -- The bytes of the line at a place of a text.
 abbrev pub bytesAt : List ℕ → ℕ → List ℕ

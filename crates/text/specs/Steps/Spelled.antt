@@ -1,4 +1,4 @@
--- The bytes that the lines of a text spell.
+-- What the second pass of Read writes: the bytes that the digits of a good text's lines spell, one line after the other.
 -- Assumes nothing.
 use Prim.Native.Nat.{ℕ, zero, suc, _+_, _*_}
 use mathlib.Core.List.{List, [], _++_}

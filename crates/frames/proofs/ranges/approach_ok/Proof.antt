@@ -1,8 +1,8 @@
 -- The crossing decides, and then the turn lane.
 -- Assumes nothing.
 use mathlib.Core.Path.{sym, _∙_}
-use Rattle.frames.specs.Ranges.{approachOk}
 use borrow.Author.Needs.{needs}
+use Rattle.frames.specs.Ranges.{approachOk}
 use Rattle.frames.proofs.ranges.approach_ok.Statement.{statement}
 use Rattle.frames.proofs.ranges.approach_ok.Tie as tie
 

@@ -6,11 +6,11 @@ use mathlib.Core.Bool.{Bool, true, false, _&&_, and-false}
 use mathlib.Core.Path.{_≡_, refl, sym, ap, _∙_}
 use mathlib.Core.List.{List}
 use lib.ListN.{getD}
-use Rattle.frames.specs.Ranges.{within, formOk, approachOk, streetOk}
+use borrow.Author.Needs.{needs}
+use Rattle.lists.proofs.Facts.{and-true}
 use Rattle.frames.specs.Edition.{extra, mostFeet}
 use Rattle.frames.specs.Frame.{feet, ways, approachB, approachA}
-use Rattle.lists.proofs.Facts.{and-true}
-use borrow.Author.Needs.{needs}
+use Rattle.frames.specs.Ranges.{within, formOk, approachOk, streetOk}
 use Rattle.frames.proofs.ranges.street_ok.Statement.{statement}
 use Rattle.frames.proofs.ranges.street_ok.Tie as tie
 

@@ -1,10 +1,10 @@
 -- The loop's invariant is `Going` of FramesChecked.antt; the part that each turn lends is the frame of segment s.
 -- Assumes nothing.
 use Prim.Native.Nat.{_+_, _-_}
-use lib.ListN.{length-take, length-drop}
-use Rattle.network.proofs.FramesChecked.{Going, starts, goes-on, ends, part-fits, fails}
 use native.Mathlib.Omega.{arith}
+use lib.ListN.{length-take, length-drop}
 use borrow.Author.Needs.{needs}
+use Rattle.network.proofs.FramesChecked.{Going, starts, goes-on, ends, part-fits, fails}
 use Rattle.network.proofs.kept.frames_ok.Statement.{statement}
 use Rattle.network.proofs.kept.frames_ok.Tie as tie
 

@@ -3,17 +3,17 @@
 use Prim.Native.Nat.{ℕ, _+_, _*_, _≤_}
 use mathlib.Core.Bool.{Bool, true, false, _&&_}
 use mathlib.Core.Path.{_≡_, sym, ap, _∙_}
+use native.Mathlib.Omega.{arith}
 use lib.Dec.{eqb}
 use lib.ListN.{length, take, length-take}
+use borrow.Author.Needs.{needs}
 use Rattle.lists.proofs.Facts.{and-true}
 use Rattle.frames.specs.Ranges.{headOk}
 use Rattle.frames.specs.Faults.{framed}
-use Rattle.network.specs.Network.{headOf}
 use Rattle.frames.proofs.EditionLaws.{frames-few}
 use Rattle.frames.proofs.FrameLaws.{HeadLimits, head-limits}
+use Rattle.network.specs.Network.{headOf}
 use Rattle.network.proofs.FramesChecked.{no-head, too-short, wrong-length, by-frames}
-use native.Mathlib.Omega.{arith}
-use borrow.Author.Needs.{needs}
 use Rattle.network.proofs.kept.is_network.Statement.{statement}
 use Rattle.network.proofs.kept.is_network.Tie as tie
 

@@ -5,18 +5,18 @@ use Prim.Native.Nat.{ℕ}
 use mathlib.Core.Bool.{Bool, true, false, _&&_, and-false}
 use mathlib.Core.List.{List}
 use mathlib.Core.Path.{_≡_, refl, sym, ap, _∙_}
+use native.Mathlib.Omega.{arith}
 use lib.Dec.{eqb}
+use borrow.Author.Needs.{needs}
+use Rattle.lists.proofs.Lists.{true-is-false}
 use Rattle.frames.specs.Edition.{frameBytes}
 use Rattle.frames.specs.Ranges.{endsOk, streetOk}
 use Rattle.frames.specs.Faults.{framed}
-use Rattle.network.specs.Steps.Checks.{freeIn, Claimed, indexFault, SegmentChecked}
-use Rattle.lists.proofs.Lists.{true-is-false}
 use Rattle.frames.proofs.EditionLaws.{frame-least}
 use Rattle.frames.proofs.FrameLaws.{framed-and}
-use Rattle.network.proofs.FaultLaws.{unless-and}
+use Rattle.network.specs.Steps.Checks.{freeIn, Claimed, indexFault, SegmentChecked}
 use Rattle.network.proofs.CornerLaws.{corners-few}
-use native.Mathlib.Omega.{arith}
-use borrow.Author.Needs.{needs}
+use Rattle.network.proofs.FaultLaws.{unless-and}
 use Rattle.network.proofs.kept.segment_ok.Statement.{statement}
 use Rattle.network.proofs.kept.segment_ok.Tie as tie
 

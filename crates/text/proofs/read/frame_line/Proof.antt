@@ -4,19 +4,19 @@ use Prim.Native.Nat.{ℕ, _+_, _*_, _%_, _<_}
 use mathlib.Core.Bool.{Bool, true, false}
 use mathlib.Core.List.{List}
 use mathlib.Core.Path.{_≡_, sym, ap, _∙_}
-use borrow.Author.Tests.{eqb-true, eqb-false}
+use native.Mathlib.Omega.{arith}
 use lib.ListN.{length, getD}
+use borrow.Author.Tests.{eqb-true, eqb-false}
+use borrow.Author.Needs.{needs}
 use Rattle.refusals.specs.declared.Refusal.{Refusal}
+use Rattle.refusals.specs.declared.Refusal.the-variants.{WrongCheck, WrongFrame}
 use Rattle.refusals.specs.Numbers.{numberOf}
 use Rattle.refusals.proofs.Positive.{positive}
-use Rattle.refusals.specs.declared.Refusal.the-variants.{WrongCheck, WrongFrame}
-use Rattle.text.specs.declared.read.LineRead.the-variants.{Frame, Faulty}
 use Rattle.frames.specs.Frame.{total}
 use Rattle.frames.specs.Faults.{framed}
-use Rattle.text.specs.Steps.Lines.{bytesAt, LineDecoded, LineFault, FrameRead}
 use Rattle.frames.proofs.FrameLaws.{check-fault, kind-fault, no-fault}
-use native.Mathlib.Omega.{arith}
-use borrow.Author.Needs.{needs}
+use Rattle.text.specs.declared.read.LineRead.the-variants.{Frame, Faulty}
+use Rattle.text.specs.Steps.Lines.{bytesAt, LineDecoded, LineFault, FrameRead}
 use Rattle.text.proofs.read.frame_line.Statement.{statement}
 use Rattle.text.proofs.read.frame_line.Tie as tie
 

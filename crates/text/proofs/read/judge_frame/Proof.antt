@@ -5,20 +5,20 @@ use Prim.Native.Nat.{ℕ}
 use mathlib.Core.Bool.{Bool, true, false, _&&_, and-false}
 use mathlib.Core.List.{List}
 use mathlib.Core.Path.{_≡_, refl, sym, _∙_, subst}
+use native.Mathlib.Omega.{arith}
 use lib.ListN.{length}
 use Rattle.lists.proofs.Facts.{true-and}
 use Rattle.refusals.specs.declared.Refusal.the-variants.{WrongField, WrongCount, LegTaken}
-use Rattle.text.specs.declared.read.LineRead.the-variants.{Frame, Faulty}
 use Rattle.frames.specs.Edition.{frameBytes}
 use Rattle.frames.specs.Ranges.{endsOk, streetOk}
 use Rattle.frames.specs.Faults.{framed}
-use Rattle.network.specs.Steps.Checks.{Claimed, indexFault}
-use Rattle.text.specs.Steps.Lines.{SegmentJudged}
 use Rattle.frames.proofs.EditionLaws.{frame-least}
 use Rattle.frames.proofs.FrameLaws.{framed-good, framed-has}
+use Rattle.network.specs.Steps.Checks.{Claimed, indexFault}
 use Rattle.network.proofs.CornerLaws.{corners-few}
+use Rattle.text.specs.declared.read.LineRead.the-variants.{Frame, Faulty}
+use Rattle.text.specs.Steps.Lines.{SegmentJudged}
 use Rattle.text.proofs.LineLaws.{judged-faulty}
-use native.Mathlib.Omega.{arith}
 use Rattle.text.proofs.read.judge_frame.Statement.{statement}
 use Rattle.text.proofs.read.judge_frame.Tie as tie
 

@@ -4,16 +4,16 @@ use Prim.Native.Nat.{ℕ, _+_, _*_}
 use mathlib.Core.Bool.{Bool}
 use mathlib.Core.List.{List}
 use mathlib.Core.Path.{_≡_, subst₂}
+use native.Mathlib.Omega.{arith}
 use lib.ListN.{length}
+use borrow.Author.Needs.{needs}
 use Rattle.refusals.specs.declared.Refusal.{Refusal}
+use Rattle.frames.specs.Edition.{frameBytes}
+use Rattle.frames.proofs.EditionLaws.{frame-least, frame-most}
 use Rattle.text.specs.declared.read.LineRead.{LineRead}
 use Rattle.text.specs.declared.read.LineRead.the-variants.{Faulty}
-use Rattle.frames.specs.Edition.{frameBytes}
 use Rattle.text.specs.Steps.Lines.{bytesAt, FrameRead, SegmentJudged}
-use Rattle.frames.proofs.EditionLaws.{frame-least, frame-most}
 use Rattle.text.proofs.LineLaws.{Framing, framing, faulting, judged-faulty}
-use native.Mathlib.Omega.{arith}
-use borrow.Author.Needs.{needs}
 use Rattle.text.proofs.read.judge_line.Statement.{statement}
 use Rattle.text.proofs.read.judge_line.Tie as tie
 

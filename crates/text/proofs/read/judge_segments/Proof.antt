@@ -3,16 +3,16 @@
 use Prim.Native.Nat.{ℕ, _-_}
 use mathlib.Core.List.{List, []}
 use mathlib.Core.Path.{_≡_, subst₂}
-use borrow.Author.Tests.{ltb-true}
+use native.Mathlib.Omega.{arith}
 use lib.ListN.{length}
+use borrow.Author.Tests.{ltb-true}
+use borrow.Author.Needs.{needs}
 use Rattle.frames.specs.Frame.{nodes, segments}
+use Rattle.frames.proofs.EditionLaws.{frames-few}
 use Rattle.text.specs.Read.{segmentLines}
 use Rattle.text.specs.Told.{ReadTold, toldOf}
-use Rattle.frames.proofs.EditionLaws.{frames-few}
 use Rattle.text.proofs.LineLaws.{tells-frame}
 use Rattle.text.proofs.LinesRead.{Going, starts, goes-on, refuses, lacks, keeps}
-use native.Mathlib.Omega.{arith}
-use borrow.Author.Needs.{needs}
 use Rattle.text.proofs.read.judge_segments.Statement.{statement}
 use Rattle.text.proofs.read.judge_segments.Tie as tie
 

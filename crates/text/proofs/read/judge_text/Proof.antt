@@ -4,32 +4,32 @@ use Prim.Native.Nat.{ℕ, _+_, _*_, _≤_, _<_}
 use mathlib.Core.Bool.{true, false}
 use mathlib.Core.List.{List, []}
 use mathlib.Core.Path.{_≡_, refl, sym, ap, _∙_, subst, subst₂}
-use borrow.Author.Tests.{le-leb, lt-leb}
+use native.Mathlib.Omega.{arith}
 use lib.ListN.{length, drop}
+use borrow.Author.Tests.{le-leb, lt-leb}
+use borrow.Author.Needs.{needs}
+use Rattle.lists.proofs.Lists.{length-of-none, length-of-some}
 use Rattle.refusals.specs.declared.Refusal.{Refusal}
+use Rattle.refusals.specs.declared.Refusal.the-variants.{WrongFrame, WrongField, OutputTooShort}
 use Rattle.refusals.specs.Numbers.{numberOf}
 use Rattle.refusals.proofs.Positive.{positive}
-use Rattle.refusals.specs.declared.Refusal.the-variants.{WrongFrame, WrongField, OutputTooShort}
-use Rattle.text.specs.declared.read.LineRead.{LineRead}
-use Rattle.text.specs.declared.read.LineRead.the-variants.{Faulty}
-use Rattle.text.specs.declared.ReadAnswer.the-variants.{Refused}
-use Rattle.digits.specs.Digits.{lineOf, bytesOf, restOf}
 use Rattle.frames.specs.Edition.{frameBytes}
 use Rattle.frames.specs.Frame.{edition, nodes, segments}
 use Rattle.frames.specs.Ranges.{headOk}
 use Rattle.frames.specs.Faults.{headFault}
-use Rattle.text.specs.Read.{segmentLines, afterHead, readOf}
+use Rattle.frames.proofs.EditionLaws.{frames-few}
+use Rattle.frames.proofs.FrameLaws.{framed-good, framed-has, head-limits}
 use Rattle.network.specs.Network.{keptBytes}
+use Rattle.digits.specs.Digits.{lineOf, bytesOf, restOf}
+use Rattle.digits.proofs.DigitLaws.{line-after}
+use Rattle.text.specs.declared.read.LineRead.{LineRead}
+use Rattle.text.specs.declared.read.LineRead.the-variants.{Faulty}
+use Rattle.text.specs.declared.ReadAnswer.the-variants.{Refused}
+use Rattle.text.specs.Read.{segmentLines, afterHead, readOf}
 use Rattle.text.specs.Told.{ReadTold, toldOf, told}
 use Rattle.text.specs.Steps.Lines.{FrameRead}
-use Rattle.lists.proofs.Lists.{length-of-none, length-of-some}
-use Rattle.frames.proofs.EditionLaws.{frames-few}
-use Rattle.digits.proofs.DigitLaws.{line-after}
-use Rattle.frames.proofs.FrameLaws.{framed-good, framed-has, head-limits}
 use Rattle.text.proofs.LineLaws.{Framing, framing, faulting}
 use Rattle.text.proofs.LinesRead.{fault-decides}
-use native.Mathlib.Omega.{arith}
-use borrow.Author.Needs.{needs}
 use Rattle.text.proofs.read.judge_text.Statement.{statement}
 use Rattle.text.proofs.read.judge_text.Tie as tie
 

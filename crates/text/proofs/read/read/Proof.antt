@@ -4,18 +4,18 @@
 use Prim.Native.Nat.{ℕ, _+_, _*_, _≤_}
 use mathlib.Core.List.{List, _++_}
 use mathlib.Core.Path.{_≡_, refl, sym, ap, _∙_, subst₂}
+use native.Mathlib.Omega.{arith}
 use lib.ListN.{length, drop}
+use borrow.Author.Needs.{needs}
 use Rattle.refusals.specs.declared.Refusal.{Refusal}
-use Rattle.text.specs.declared.ReadAnswer.the-variants.{Refused, Kept}
 use Rattle.frames.specs.Edition.{frameBytes}
 use Rattle.frames.specs.Frame.{edition, segments}
-use Rattle.text.specs.Read.{Reading, readOf, kept}
 use Rattle.digits.specs.Steps.Scan.{spelled}
-use Rattle.text.specs.Steps.Spelled.{spelledText}
+use Rattle.text.specs.declared.ReadAnswer.the-variants.{Refused, Kept}
+use Rattle.text.specs.Read.{Reading, readOf, kept}
 use Rattle.text.specs.Told.{told, toldOf, written, outputOf, ReadDid}
+use Rattle.text.specs.Steps.Spelled.{spelledText}
 use Rattle.text.proofs.KeptText.{TextKept, text-kept, was-refused, was-kept}
-use native.Mathlib.Omega.{arith}
-use borrow.Author.Needs.{needs}
 use Rattle.text.proofs.read.read.Statement.{statement}
 use Rattle.text.proofs.read.read.Tie as tie
 

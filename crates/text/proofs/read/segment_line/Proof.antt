@@ -1,7 +1,7 @@
 -- A frame of any edition has room in the buffer, and the part that is lent has the frame's length.
 -- Assumes nothing.
-use lib.ListN.{length-take}
 use native.Mathlib.Omega.{arith}
+use lib.ListN.{length-take}
 use borrow.Author.Needs.{needs}
 use Rattle.text.proofs.read.segment_line.Statement.{statement}
 use Rattle.text.proofs.read.segment_line.Tie as tie

@@ -5,16 +5,16 @@ use Prim.Native.Nat.{ℕ, _+_, _*_, _-_, _≤_, _<_}
 use mathlib.Core.Bool.{Bool, true, false}
 use mathlib.Core.List.{List}
 use mathlib.Core.Path.{_≡_, refl, sym, ap, _∙_}
-use borrow.Author.Tests.{eq-eqb, ne-eqb}
+use native.Mathlib.Omega.{arith}
 use lib.ListN.{length, drop, getD, length-drop}
 use lib.Seq.{getD-drop}
+use borrow.Author.Tests.{eq-eqb, ne-eqb}
+use borrow.Author.Needs.{needs}
+use Rattle.lists.proofs.Lists.{true-is-false}
 use Rattle.digits.specs.Digits.{bytesOf}
 use Rattle.digits.specs.Steps.Scan.{spelled, Decoding}
-use Rattle.text.specs.Steps.Lines.{bytesAt, LineDecoded}
-use Rattle.lists.proofs.Lists.{true-is-false}
 use Rattle.digits.proofs.DigitLaws.{length-spelled, whole-line, line-after, line-digits}
-use native.Mathlib.Omega.{arith}
-use borrow.Author.Needs.{needs}
+use Rattle.text.specs.Steps.Lines.{bytesAt, LineDecoded}
 use Rattle.text.proofs.read.whole_line.Statement.{statement}
 use Rattle.text.proofs.read.whole_line.Tie as tie
 
