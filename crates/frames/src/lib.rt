@@ -2,6 +2,7 @@
 // specs/; every function is equated with one of them.
 pub mod decoded;
 pub mod edition;
+pub mod fields;
 pub mod frame;
 pub mod ranges;
 

@@ -4,10 +4,12 @@ ghost use mathlib.Core.Path.{_≡_};
 ghost use mathlib.Core.List.{[]};
 ghost use lib.ListN.{length, drop};
 ghost use Rattle.frames.specs.Edition.{frameBytes};
+ghost use Rattle.frames.specs.Frame.{headBytes};
 ghost use Rattle.network.specs.Steps.Corners.{Indexed};
 ghost use Rattle.network.specs.Steps.Checks.{FramesChecked, Checked, SegmentChecked};
 use crate::corners::claim_legs;
 use frames::edition::frame_bytes;
+use frames::fields;
 use frames::frame::is_framed;
 use frames::frame::word_at;
 use frames::ranges::ends_ok;
@@ -19,7 +21,7 @@ fn segment_ok(f: &[u8], e: u8, n: usize, s: usize, index: &mut [u16; 8000]) -> b
     requires { ⌜ (length (now f) ≡ frameBytes e) × (n ≤ 1000) × (s < 1000) ⌝ }
     ensures { λ r. ⌜ SegmentChecked (now (f .entry)) e n s (now (index .entry)) (now (index .exit)) r ⌝ }
 {
-    if is_framed(f, 2) {
+    if is_framed(f, fields::SEGMENT_KIND) {
         if street_ok(f, e) {
             if ends_ok(f, n) {
                 return claim_legs(f, s, index);
@@ -33,12 +35,12 @@ fn segment_ok(f: &[u8], e: u8, n: usize, s: usize, index: &mut [u16; 8000]) -> b
 
 // The segment frames after the head follow the rules, and no leg is taken twice; then the index has all their corners.
 fn frames_ok(net: &[u8], e: u8, n: usize, segments: usize, index: &mut [u16; 8000]) -> bool
-    requires { ⌜ (length (now net) ≡ 7 + frameBytes e * segments) × (n ≤ 1000) × (segments ≤ 1000) × Indexed [] (now index) ⌝ }
-    ensures { λ r. ⌜ FramesChecked e n segments (drop 7 (now (net .entry))) (now (index .exit)) r ⌝ }
+    requires { ⌜ (length (now net) ≡ headBytes + frameBytes e * segments) × (n ≤ 1000) × (segments ≤ 1000) × Indexed [] (now index) ⌝ }
+    ensures { λ r. ⌜ FramesChecked e n segments (drop headBytes (now (net .entry))) (now (index .exit)) r ⌝ }
 {
     let size = frame_bytes(e);
     let mut s: usize = 0;
-    let mut at: usize = 7;
+    let mut at: usize = fields::HEAD_BYTES;
     while s < segments {
         if segment_ok(&net[at..at + size], e, n, s, index) {
             s += 1;
@@ -55,16 +57,16 @@ pub fn is_network(net: &[u8], index: &mut [u16; 8000]) -> bool
     requires { ⌜ Indexed [] (now index) ⌝ }
     ensures { λ r. ⌜ Checked (now (net .entry)) (now (index .exit)) r ⌝ }
 {
-    if net.len() < 7 {
+    if net.len() < fields::HEAD_BYTES {
         return false;
     }
-    let head = &net[0..7];
-    if is_framed(head, 1) & head_ok(head) {
-        let e = head[1];
-        let nodes = word_at(head, 2);
-        let segments = word_at(head, 4);
+    let head = &net[0..fields::HEAD_BYTES];
+    if is_framed(head, fields::HEAD_KIND) & head_ok(head) {
+        let e = head[fields::EDITION];
+        let nodes = word_at(head, fields::NODES);
+        let segments = word_at(head, fields::SEGMENTS);
         let size = frame_bytes(e);
-        if net.len() == 7 + size * segments {
+        if net.len() == fields::HEAD_BYTES + size * segments {
             return frames_ok(net, e, nodes, segments, index);
         }
         return false;

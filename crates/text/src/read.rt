@@ -5,6 +5,7 @@ ghost use mathlib.Core.Bool.{true};
 ghost use mathlib.Core.List.{_++_};
 ghost use lib.ListN.{length, drop};
 ghost use Rattle.frames.specs.Edition.{frameBytes};
+ghost use Rattle.frames.specs.Frame.{headBytes};
 ghost use Rattle.frames.specs.Ranges.{headOk};
 ghost use Rattle.frames.specs.Faults.{framed};
 ghost use Rattle.text.specs.Read.{readOf};
@@ -16,6 +17,7 @@ use digits::Scan;
 use digits::decode_into;
 use digits::scan_line;
 use frames::edition::frame_bytes;
+use frames::fields;
 use frames::frame::sum_of;
 use frames::frame::word_at;
 use frames::ranges::ends_ok;
@@ -73,7 +75,7 @@ fn frame_line(text: &[u8], at: usize, kind: u8, frame: &mut [u8]) -> LineRead
         if sum_of(frame) != 0 {
             return LineRead::Faulty(Refusal::WrongCheck);
         }
-        if frame[0] == kind {
+        if frame[fields::KIND] == kind {
             return LineRead::Frame(at + 2 * frame.len() + 1);
         }
         return LineRead::Faulty(Refusal::WrongFrame);
@@ -123,7 +125,7 @@ fn judge_line(
     requires { ⌜ (at ≤ length (now text)) × (n ≤ 1000) × (more ≡ true → s < 1000) × (length (now frame) ≡ frameBytes e) ⌝ }
     ensures { λ r. ⌜ SegmentJudged (bytesAt (now (text .entry)) at) (at + 2 * frameBytes e + 1) e n more s (now (index .entry)) (now (index .exit)) r ⌝ }
 {
-    match frame_line(text, at, 2, frame) {
+    match frame_line(text, at, fields::SEGMENT_KIND, frame) {
         LineRead::Faulty(fault) => LineRead::Faulty(fault),
         LineRead::Frame(next) => judge_frame(frame, next, e, n, more, s, index),
     }
@@ -142,19 +144,19 @@ fn segment_line(
     requires { ⌜ (at ≤ length (now text)) × (n ≤ 1000) × (more ≡ true → s < 1000) ⌝ }
     ensures { λ r. ⌜ SegmentJudged (bytesAt (now (text .entry)) at) (at + 2 * frameBytes e + 1) e n more s (now (index .entry)) (now (index .exit)) r ⌝ }
 {
-    let mut frame = [0u8; 32];
+    let mut frame = [0u8; fields::MOST_BYTES];
     let size = frame_bytes(e);
     judge_line(text, at, e, n, more, s, &mut frame[..size], index)
 }
 
 // The answer for the lines after a good head, from a place of the text on.
-fn judge_segments(text: &[u8], start: usize, head: &[u8; 7]) -> ReadAnswer
+fn judge_segments(text: &[u8], start: usize, head: &[u8; fields::HEAD_BYTES]) -> ReadAnswer
     requires { ⌜ (start ≤ length (now text)) × (headOk (now head) ≡ true) ⌝ }
     ensures { λ r. ⌜ told r ≡ toldOf (linesAfter (now (head .entry)) (drop start (now (text .entry)))) ⌝ }
 {
-    let e = head[1];
-    let n = word_at(head, 2);
-    let segments = word_at(head, 4);
+    let e = head[fields::EDITION];
+    let n = word_at(head, fields::NODES);
+    let segments = word_at(head, fields::SEGMENTS);
     let size = frame_bytes(e);
     let end = text.len();
     let mut index = no_corners();
@@ -180,7 +182,7 @@ fn judge_segments(text: &[u8], start: usize, head: &[u8; 7]) -> ReadAnswer
             line: s + 2,
         };
     }
-    ReadAnswer::Kept(7 + size * segments)
+    ReadAnswer::Kept(fields::HEAD_BYTES + size * segments)
 }
 
 // The answer for a text and an output of `room` bytes.
@@ -193,17 +195,17 @@ fn judge_text(text: &[u8], room: usize) -> ReadAnswer
             line: 1,
         };
     }
-    let mut head = [0u8; 7];
-    match frame_line(text, 0, 1, &mut head) {
+    let mut head = [0u8; fields::HEAD_BYTES];
+    match frame_line(text, 0, fields::HEAD_KIND, &mut head) {
         LineRead::Faulty(fault) => ReadAnswer::Refused {
             refusal: fault,
             line: 1,
         },
         LineRead::Frame(next) => {
             if head_ok(&head) {
-                let segments = word_at(&head, 4);
-                let size = frame_bytes(head[1]);
-                if 7 + size * segments <= room {
+                let segments = word_at(&head, fields::SEGMENTS);
+                let size = frame_bytes(head[fields::EDITION]);
+                if fields::HEAD_BYTES + size * segments <= room {
                     return judge_segments(text, next, &head);
                 }
                 return ReadAnswer::Refused {
@@ -221,13 +223,13 @@ fn judge_text(text: &[u8], room: usize) -> ReadAnswer
 
 // Writes the bytes of a text that was judged good: its head and so many lines of frames of this size.
 fn write_frames(text: &[u8], size: usize, segments: usize, output: &mut [u8])
-    requires { ⌜ (15 + (2 * size + 1) * segments ≤ length (now text)) × (7 + size * segments ≤ length (now output)) × (size ≤ 32) ⌝ }
-    ensures { λ _. ⌜ now (output .exit) ≡ spelledText size segments (now (text .entry)) ++ drop (7 + size * segments) (now (output .entry)) ⌝ }
+    requires { ⌜ (2 * headBytes + 1 + (2 * size + 1) * segments ≤ length (now text)) × (headBytes + size * segments ≤ length (now output)) × (size ≤ 32) ⌝ }
+    ensures { λ _. ⌜ now (output .exit) ≡ spelledText size segments (now (text .entry)) ++ drop (headBytes + size * segments) (now (output .entry)) ⌝ }
 {
-    decode_into(text, 0, &mut output[0..7]);
+    decode_into(text, 0, &mut output[0..fields::HEAD_BYTES]);
     let mut s: usize = 0;
-    let mut at: usize = 15;
-    let mut out: usize = 7;
+    let mut at: usize = fields::HEAD_LINE;
+    let mut out: usize = fields::HEAD_BYTES;
     while s < segments {
         decode_into(text, at, &mut output[out..out + size]);
         s += 1;
@@ -243,10 +245,10 @@ pub fn read(text: &[u8], output: &mut [u8]) -> ReadAnswer
     match judge_text(text, output.len()) {
         ReadAnswer::Refused { refusal, line } => ReadAnswer::Refused { refusal, line },
         ReadAnswer::Kept(count) => {
-            let mut head = [0u8; 7];
+            let mut head = [0u8; fields::HEAD_BYTES];
             decode_into(text, 0, &mut head);
-            let segments = word_at(&head, 4);
-            let size = frame_bytes(head[1]);
+            let segments = word_at(&head, fields::SEGMENTS);
+            let size = frame_bytes(head[fields::EDITION]);
             write_frames(text, size, segments, output);
             ReadAnswer::Kept(count)
         }
