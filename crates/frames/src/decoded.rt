@@ -1,18 +1,31 @@
-// The decoded values of a segment's frame that stands at a place of a network, read where they stand.
+// The decoded values of a head, and of a segment's frame that stands at a place of a network, read where they stand.
 ghost use Prim.Native.Nat.{_+_, _≤_, _<_};
 ghost use mathlib.Core.Path.{_≡_};
 ghost use lib.ListN.{length, take, drop};
 ghost use Rattle.frames.specs.Edition.{frameBytes};
-ghost use Rattle.frames.specs.Frame.{feet};
-ghost use Rattle.frames.specs.Decoded.{formOf, crossingOf, turnLaneOf};
+ghost use Rattle.frames.specs.Frame.{headBytes, feet};
+ghost use Rattle.frames.specs.Decoded.{headFields, formOf, crossingOf, turnLaneOf};
 use crate::Crossing;
 use crate::Form;
+use crate::Head;
 use crate::TurnLane;
 use crate::edition::extra_of;
 use crate::edition::frame_bytes;
 use crate::fields;
 use crate::frame::feet_of;
 use crate::frame::word_at;
+
+// What a head says.
+pub fn head_of(h: &[u8]) -> Head
+    requires { ⌜ headBytes ≤ length (now h) ⌝ }
+    ensures { λ r. ⌜ r ≡ headFields (now (h .entry)) ⌝ }
+{
+    Head {
+        edition: h[fields::EDITION],
+        nodes: word_at(h, fields::NODES),
+        segments: word_at(h, fields::SEGMENTS),
+    }
+}
 
 // The segment's length in feet.
 pub fn feet_at(net: &[u8], start: usize, e: u8) -> usize

@@ -6,6 +6,13 @@ pub mod fields;
 pub mod frame;
 pub mod ranges;
 
+// What a head says: the edition, the nodes N and the segments S.
+pub struct Head {
+    pub edition: u8,
+    pub nodes: usize,
+    pub segments: usize,
+}
+
 // The form of a segment. Each case has only the lanes, speed, reach and marks that its levels are made from.
 pub enum Form {
     // Lanes are all through lanes.

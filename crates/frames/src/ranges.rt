@@ -96,10 +96,10 @@ fn approach_ok(f: &[u8], e: u8, i: usize) -> bool
     requires { ⌜ i + 6 < length (now f) ⌝ }
     ensures { λ r. ⌜ r ≡ approachOk e (now (f .entry)) i ⌝ }
 {
-    if crossing_ok(f, e, i) {
-        return turn_lane_ok(f, i);
+    if !crossing_ok(f, e, i) {
+        return false;
     }
-    false
+    turn_lane_ok(f, i)
 }
 
 // All that a segment's frame has after its ends. A frame that is refused is rare, so each test is a branch of its own, which costs the others nothing.
@@ -110,14 +110,16 @@ pub fn street_ok(f: &[u8], e: u8) -> bool
     let x = extra_of(e);
     let feet = feet_of(f, e);
     let ways = f[x + fields::WAYS];
-    if ((1 <= feet) & (feet <= most_feet(e))) & ((1 <= ways) & (ways <= 3)) {
-        if form_ok(f, e) {
-            if approach_ok(f, e, x + fields::APPROACH_B) {
-                return approach_ok(f, e, x + fields::APPROACH_A);
-            }
-            return false;
-        }
+    let feet_ok = (1 <= feet) & (feet <= most_feet(e));
+    let ways_ok = (1 <= ways) & (ways <= 3);
+    if !(feet_ok & ways_ok) {
         return false;
     }
-    false
+    if !form_ok(f, e) {
+        return false;
+    }
+    if !approach_ok(f, e, x + fields::APPROACH_B) {
+        return false;
+    }
+    approach_ok(f, e, x + fields::APPROACH_A)
 }

@@ -19,7 +19,7 @@ judge-line-requires : tie.Need-judge-line-requires
 judge-line-requires c κs =
     let p = c .before .before .before .before .pre in
     let size = c .before .before .frame-bytes .ensures in
-    (p .0, p .1, p .2, simp length-take (omega (arith, size .most, size .is)))
+    (p .0, p .1, simp length-take (omega (arith, size .most, size .is)))
 
 returns : tie.Need-returns
 returns c = search needs

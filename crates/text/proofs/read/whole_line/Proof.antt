@@ -56,19 +56,19 @@ add-if2 c = search needs
 shared-slice-read-if2 : tie.Need-shared-slice-read-if2
 shared-slice-read-if2 c = search needs
 
+returns-2 : tie.Need-returns-2
+returns-2 c = no-end (c .before .before .before .before .before .pre .0) (c .before .before .before .before .before .pre .1) (c .if2 .taken)
+
 decode-into-requires : tie.Need-decode-into-requires
 decode-into-requires c κs = search needs
 
 same-length : tie.Need-same-length
 same-length c = search needs
 
-returns-2 : tie.Need-returns-2
-returns-2 c =
+returns-3 : tie.Need-returns-3
+returns-3 c =
     let start = c .before .before .before .before .before .before .before .before .before in
     decoded (start .pre .0) (start .pre .1) (omega arith) (omega arith) (c .before .before .decode-into .ensures)
-
-returns-3 : tie.Need-returns-3
-returns-3 c = no-end (c .before .before .before .before .before .pre .0) (c .before .before .before .before .before .pre .1) (c .if2 .left)
 
 pub whole-line-spec : {M : Type 1} → statement M
 whole-line-spec =
@@ -79,7 +79,7 @@ whole-line-spec =
     returns
     add-if2
     shared-slice-read-if2
+    returns-2
     decode-into-requires
     same-length
-    returns-2
     returns-3)
