@@ -9,9 +9,9 @@ use native.Mathlib.Omega.{arith}
 use native.Mathlib.Nat.{sub-zero, mul-zero}
 use lib.ListN.{length, getD, take, drop, set, length-set, length-append, length-take, length-drop, drop-of-length-le}
 use lib.Seq.{drop-drop, getD-drop, take-all, take-at}
+use Rattle.lists.proofs.Lists.{times-next, take-stored}
 use Rattle.digits.specs.Digits.{isDigit}
 use Rattle.digits.specs.Steps.Scan.{spelled, areDigits, made, valuesOf, pairAt, paired, Valued, Decoding}
-use Rattle.lists.proofs.Lists.{times-next, take-stored}
 use Rattle.digits.proofs.DigitLaws.{digit-small, length-spelled}
 
 -- ---- a list that is filled: k numbers are made, and with those that are left to make they are the whole

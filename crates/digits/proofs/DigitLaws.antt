@@ -6,18 +6,18 @@ use mathlib.Core.Bool.{Bool, true, false, cond, _&&_, true≢false}
 use mathlib.Core.Path.{_≡_, refl, sym, ap, _∙_}
 use mathlib.Core.List.{List, [], _∷_}
 use native.Mathlib.Omega.{arith}
-use borrow.Author.Tests.{eq-eqb, ne-eqb, eqb-true}
 use lib.Dec.{eqb}
 use lib.ListN.{length, getD, drop, length-drop, drop-of-length-le}
 use lib.Seq.{drop-drop}
+use borrow.Author.Tests.{eq-eqb, ne-eqb, eqb-true}
 use Rattle.lists.proofs.Facts.{and-true, true-and}
-use Rattle.digits.specs.declared.Scan.the-variants.{Broken, Whole}
-use Rattle.frames.specs.Ranges.{within}
-use Rattle.digits.specs.Digits.{isDigit, line, digit, Line, broken, push, lineOf, bytesOf, restOf}
-use Rattle.frames.specs.Frame.{total}
-use Rattle.digits.specs.Steps.Scan.{scanned, areDigits, spelled}
 use Rattle.lists.proofs.Lists.{drop-one, drop-two}
+use Rattle.frames.specs.Frame.{total}
+use Rattle.frames.specs.Ranges.{within}
 use Rattle.frames.proofs.RangeLaws.{within-high}
+use Rattle.digits.specs.declared.Scan.the-variants.{Broken, Whole}
+use Rattle.digits.specs.Digits.{isDigit, line, digit, Line, broken, push, lineOf, bytesOf, restOf}
+use Rattle.digits.specs.Steps.Scan.{scanned, areDigits, spelled}
 
 pub digit-small : (x : ℕ) → digit x < 16
 unfolding digit

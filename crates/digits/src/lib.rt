@@ -1,6 +1,7 @@
-// Lines of uppercase hexadecimal digits, two for a byte, each ended by 0A.
-ghost use mathlib.Core.Path.{_≡_};
+// The digits of a network text: lines of uppercase hexadecimal digits, two for a byte, each ended by 0A. A line is scanned, or decoded where its length is
+// known. The definitions are in specs/; every function is equated with one of them.
 ghost use Prim.Native.Nat.{ℕ, _+_, _*_, _≤_, _<_};
+ghost use mathlib.Core.Path.{_≡_};
 ghost use lib.ListN.{length, getD, drop};
 ghost use Rattle.digits.specs.Digits.{isDigit, digit, lineOf};
 ghost use Rattle.digits.specs.Steps.Scan.{scanned, paired, Valued, Decoding};

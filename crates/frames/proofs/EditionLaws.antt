@@ -6,8 +6,8 @@ use mathlib.Core.Path.{_≡_, refl}
 use native.Mathlib.Omega.{arith}
 use native.Mathlib.Nat.{mul-le-mul}
 use borrow.Author.Tests.{leb-true, lt-leb}
-use Rattle.frames.specs.Ranges.{within}
 use Rattle.frames.specs.Edition.{extra, frameBytes, mostNodes, mostSegments, crossesNothing}
+use Rattle.frames.specs.Ranges.{within}
 
 pub frame-extra : (e : ℕ) → frameBytes e ≡ 30 + extra e
 unfolding frameBytes

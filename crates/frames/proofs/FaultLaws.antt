@@ -1,15 +1,16 @@
--- A frame with no fault follows the rules, and one that follows them has no fault: each test of `headFault` and `segmentFault` in turn.
+-- A head with no fault follows the rules, and one that follows them has no fault: each test of `headFault` in turn. And a frame with its check, its kind
+-- and its length has none of the faults that every frame may have.
 -- Assumes nothing.
 use Prim.Native.Nat.{ℕ}
 use mathlib.Core.Bool.{Bool, true, false, _&&_}
 use mathlib.Core.Path.{_≡_, refl, sym, ap, _∙_}
 use mathlib.Core.List.{List, [], _∷_}
 use native.Mathlib.Omega.{arith}
-use borrow.Author.Tests.{eq-eqb}
 use lib.Dec.{eqb}
 use lib.ListN.{length}
-use Rattle.refusals.specs.Numbers.{unless}
+use borrow.Author.Tests.{eq-eqb}
 use Rattle.refusals.specs.declared.Refusal.the-variants.{WrongField}
+use Rattle.refusals.specs.Numbers.{unless}
 use Rattle.frames.specs.Frame.{byte, checkOk}
 use Rattle.frames.specs.Ranges.{headOk}
 use Rattle.frames.specs.Faults.{framed, headFault}

@@ -3,21 +3,24 @@
 -- Assumes nothing.
 use Prim.Native.Nat.{ℕ, _+_, _%_, _≤_, _<_}
 use mathlib.Core.Bool.{Bool, true, false, not, _&&_, and-false}
-use mathlib.Core.Path.{_≡_, refl, sym}
+use mathlib.Core.Path.{_≡_, refl, sym, subst}
 use mathlib.Core.List.{List, [], _∷_}
 use native.Mathlib.Omega.{arith}
-use borrow.Author.Tests.{leb-true, ltb-true, eqb-true, eq-eqb, ne-eqb}
 use lib.Dec.{leb, ltb, eqb}
 use lib.ListN.{length, getD, drop, drop-of-length-le}
+use borrow.Author.Tests.{leb-true, ltb-true, eqb-true, eq-eqb, ne-eqb}
+use Rattle.lists.specs.Lists.{isEmpty}
 use Rattle.lists.proofs.Facts.{and-true}
-use Rattle.frames.specs.Ranges.{within, headOk, endsOk}
-use Rattle.refusals.specs.Numbers.{numberOf, unless}
+use Rattle.lists.proofs.Lists.{drop-one}
 use Rattle.refusals.specs.declared.Refusal.the-variants.{NotDigits, WrongCheck, WrongFrame}
+use Rattle.refusals.specs.Numbers.{numberOf, unless}
+use Rattle.frames.specs.declared.Head.{Head}
 use Rattle.frames.specs.Edition.{editionOk, mostNodes, mostSegments}
 use Rattle.frames.specs.Frame.{total, checkOk, byte, isFrame, edition, nodes, segments, nodeA, legA, nodeB, legB}
-use Rattle.lists.specs.Lists.{isEmpty}
+use Rattle.frames.specs.Decoded.{headFields}
+use Rattle.frames.specs.Ranges.{within, headOk, endsOk}
 use Rattle.frames.specs.Faults.{framed}
-use Rattle.lists.proofs.Lists.{drop-one}
+use Rattle.frames.specs.Steps.Sizes.{Limited}
 use Rattle.frames.proofs.EditionLaws.{nodes-few, segments-few}
 use Rattle.frames.proofs.RangeLaws.{within-high}
 
@@ -146,6 +149,10 @@ head-limits h e =
       few-nodes = omega (arith, nodes-few (edition h));
       few-segments = omega (arith, segments-few (edition h));
     }
+
+pub limited : {head : Head} (h : List ℕ) → head ≡ headFields h → headOk h ≡ true → Limited head
+limited h e o =
+    let l = head-limits h o in subst Limited (sym e) (record { few-nodes = l .few-nodes; few-segments = l .few-segments })
 
 pub record EndLimits (n : ℕ) (f : List ℕ) : Type 0 where
   pub node-a : nodeA f < n

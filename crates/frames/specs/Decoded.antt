@@ -1,17 +1,22 @@
--- Document 01, "Frames": the decoded form of a segment, and what its approaches cross and meet. Each case has only its own fields.
+-- Document 01, "Frames": the decoded fields of a head, the form of a segment, and what its approaches cross and meet. Each case has only its own fields.
 -- A number that no rule allows (specs/Ranges.antt refuses it) decodes as the last case.
 -- Assumes nothing.
 use Prim.Native.Nat.{ℕ}
 use mathlib.Core.Bool.{cond}
 use mathlib.Core.List.{List}
 use lib.Dec.{eqb}
+use Rattle.frames.specs.declared.Head.{Head}
 use Rattle.frames.specs.declared.Form.{Form}
 use Rattle.frames.specs.declared.Form.the-variants.{Mixed, BesideParking, BikeLane, SeparatePath}
 use Rattle.frames.specs.declared.Crossing.{Crossing}
 use Rattle.frames.specs.declared.Crossing.the-variants.{Nothing, Signal, NoIsland, Island, OneWay}
 use Rattle.frames.specs.declared.TurnLane.{TurnLane}
 use Rattle.frames.specs.declared.TurnLane.the-variants.{Absent, Straight, ShiftsLeft, NoBikeLane}
+use Rattle.frames.specs.Frame.{edition, nodes, segments}
 use Rattle.frames.specs.Frame.{form, lanes, speed, reach, marks, control, lanesCrossed, speedCrossed, turnKind, turnFeet, turningSpeed}
+
+abbrev pub headFields : List ℕ → Head
+headFields h = record { edition = edition h; nodes = nodes h; segments = segments h }
 
 -- Form: 0 mixed traffic, 1 bike lane beside parking, 2 bike lane without parking, 3 separate path.
 unfoldable pub formOf : ℕ → List ℕ → Form

@@ -1,13 +1,14 @@
--- Document 01, "Read": the faults of a frame.
+-- Document 01, "Read": the first fault of a frame, of those that every frame may have, and of a head. (A segment's other faults need the network: they stand
+-- in crate network.)
 -- Assumes nothing.
 use Prim.Native.Nat.{ℕ}
 use mathlib.Core.Bool.{not}
 use mathlib.Core.List.{List}
-use Rattle.refusals.specs.Numbers.{unless}
+use Rattle.lists.specs.Lists.{isEmpty}
 use Rattle.refusals.specs.declared.Refusal.the-variants.{NotDigits, WrongCheck, WrongFrame, WrongField}
+use Rattle.refusals.specs.Numbers.{unless}
 use Rattle.frames.specs.Frame.{checkOk, isFrame, headBytes}
 use Rattle.frames.specs.Ranges.{headOk}
-use Rattle.lists.specs.Lists.{isEmpty}
 
 -- A frame's faults are numbers, 0 for none, in this order: 1 an empty line or one that is not whole pairs (which has no bytes); 2 check; 3 wrong
 -- kind or frame length for its position; then what the position tests.

@@ -1,4 +1,4 @@
--- Document 01, "Frames": a frame that follows the rules.
+-- Document 01, "Frames": a frame that follows the rules, in named parts, as far as the frame alone can tell. Demand 2 is written in these words.
 -- Assumes nothing.
 use Prim.Native.Nat.{ℕ}
 use mathlib.Core.Bool.{true}

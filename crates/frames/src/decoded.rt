@@ -1,17 +1,31 @@
-// The decoded values of a segment's frame that stands at a place of a network, read where they stand.
-ghost use mathlib.Core.Path.{_≡_};
+// The decoded values of a head, and of a segment's frame that stands at a place of a network, read where they stand.
 ghost use Prim.Native.Nat.{_+_, _≤_, _<_};
+ghost use mathlib.Core.Path.{_≡_};
 ghost use lib.ListN.{length, take, drop};
 ghost use Rattle.frames.specs.Edition.{frameBytes};
-ghost use Rattle.frames.specs.Frame.{feet};
-ghost use Rattle.frames.specs.Decoded.{formOf, crossingOf, turnLaneOf};
+ghost use Rattle.frames.specs.Frame.{headBytes, feet};
+ghost use Rattle.frames.specs.Decoded.{headFields, formOf, crossingOf, turnLaneOf};
 use crate::Crossing;
 use crate::Form;
+use crate::Head;
 use crate::TurnLane;
 use crate::edition::extra_of;
 use crate::edition::frame_bytes;
+use crate::fields;
 use crate::frame::feet_of;
 use crate::frame::word_at;
+
+// What a head says.
+pub fn head_of(h: &[u8]) -> Head
+    requires { ⌜ headBytes ≤ length (now h) ⌝ }
+    ensures { λ r. ⌜ r ≡ headFields (now (h .entry)) ⌝ }
+{
+    Head {
+        edition: h[fields::EDITION],
+        nodes: word_at(h, fields::NODES),
+        segments: word_at(h, fields::SEGMENTS),
+    }
+}
 
 // The segment's length in feet.
 pub fn feet_at(net: &[u8], start: usize, e: u8) -> usize
@@ -29,11 +43,11 @@ pub fn form_at(net: &[u8], start: usize, e: u8) -> Form
 {
     let x = extra_of(e);
     let at = start + x;
-    let form = net[at + 9];
-    let lanes = net[at + 11];
-    let speed = net[at + 12];
-    let reach = net[at + 13];
-    let marks = net[at + 14];
+    let form = net[at + fields::FORM];
+    let lanes = net[at + fields::LANES];
+    let speed = net[at + fields::SPEED];
+    let reach = net[at + fields::REACH];
+    let marks = net[at + fields::MARKS];
     if form == 0 {
         return Form::Mixed {
             lanes,
@@ -67,8 +81,8 @@ pub fn crossing_at(net: &[u8], start: usize, e: u8, i: usize) -> Crossing
 {
     let at = start + i;
     let control = net[at];
-    let lanes = net[at + 1];
-    let speed = net[at + 2];
+    let lanes = net[at + fields::LANES_CROSSED];
+    let speed = net[at + fields::SPEED_CROSSED];
     if control == 0 {
         return Crossing::Nothing;
     }
@@ -90,9 +104,9 @@ pub fn turn_lane_at(net: &[u8], start: usize, e: u8, i: usize) -> TurnLane
     ensures { λ r. ⌜ r ≡ turnLaneOf (take (frameBytes e) (drop start (now (net .entry)))) i ⌝ }
 {
     let at = start + i;
-    let kind = net[at + 3];
-    let feet = word_at(net, at + 4) as u16;
-    let speed = net[at + 6];
+    let kind = net[at + fields::TURN_KIND];
+    let feet = word_at(net, at + fields::TURN_FEET) as u16;
+    let speed = net[at + fields::TURNING_SPEED];
     if kind == 0 {
         return TurnLane::Absent;
     }

@@ -2,6 +2,7 @@
 ghost use mathlib.Core.Path.{_≡_};
 ghost use Rattle.frames.specs.Edition.{editionOk, mostNodes, mostSegments, mostFeet, marksOk, crossesNothing};
 ghost use Rattle.frames.specs.Steps.Sizes.{Extra, FrameSize};
+use crate::fields;
 
 // Whether the edition exists.
 pub fn edition_ok(e: u8) -> bool
@@ -35,7 +36,7 @@ pub fn extra_of(e: u8) -> usize
 pub fn frame_bytes(e: u8) -> usize
     ensures { λ r. ⌜ FrameSize e r ⌝ }
 {
-    30 + extra_of(e)
+    fields::SEGMENT_BYTES + extra_of(e)
 }
 
 // The longest length of a segment.

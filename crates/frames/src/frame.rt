@@ -1,11 +1,12 @@
 // The bytes of any frame: its fields' widths, its check and its kind.
-ghost use mathlib.Core.Path.{_≡_};
 ghost use Prim.Native.Nat.{_+_, _%_, _≤_, _<_};
+ghost use mathlib.Core.Path.{_≡_};
 ghost use lib.Dec.{eqb};
 ghost use lib.ListN.{length};
 ghost use Rattle.frames.specs.Edition.{frameBytes};
 ghost use Rattle.frames.specs.Frame.{byte, word, total, feet};
 ghost use Rattle.frames.specs.Faults.{framed};
+use crate::fields;
 
 // A byte as a number that sums and products have room for.
 pub fn byte_at(f: &[u8], i: usize) -> usize
@@ -28,7 +29,7 @@ pub fn feet_of(f: &[u8], e: u8) -> usize
     requires { ⌜ (29 < length (now f)) × (frameBytes e ≤ length (now f)) ⌝ }
     ensures { λ r. ⌜ (r ≡ feet e (now (f .entry))) × (r < 65536) ⌝ }
 {
-    word_at(f, 7)
+    word_at(f, fields::FEET)
 }
 
 // The sum of a frame's bytes modulo 256, which a right check makes 0.
@@ -49,5 +50,5 @@ pub fn is_framed(f: &[u8], kind: u8) -> bool
     requires { ⌜ 0 < length (now f) ⌝ }
     ensures { λ r. ⌜ r ≡ eqb (framed kind (length (now (f .entry))) (now (f .entry)) 0) 0 ⌝ }
 {
-    (sum_of(f) == 0) & (f[0] == kind)
+    (sum_of(f) == 0) & (f[fields::KIND] == kind)
 }

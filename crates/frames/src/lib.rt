@@ -2,8 +2,16 @@
 // specs/; every function is equated with one of them.
 pub mod decoded;
 pub mod edition;
+pub mod fields;
 pub mod frame;
 pub mod ranges;
+
+// What a head says: the edition, the nodes N and the segments S.
+pub struct Head {
+    pub edition: u8,
+    pub nodes: usize,
+    pub segments: usize,
+}
 
 // The form of a segment. Each case has only the lanes, speed, reach and marks that its levels are made from.
 pub enum Form {

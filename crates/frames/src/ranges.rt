@@ -1,8 +1,9 @@
 // The ranges and rules of a head's and a segment's fields.
-ghost use mathlib.Core.Path.{_≡_};
 ghost use Prim.Native.Nat.{_+_, _≤_, _<_};
+ghost use mathlib.Core.Path.{_≡_};
 ghost use lib.ListN.{length};
 ghost use Rattle.frames.specs.Edition.{frameBytes};
+ghost use Rattle.frames.specs.Frame.{headBytes};
 ghost use Rattle.frames.specs.Ranges.{headOk, endsOk, formOk, crossingOk, turnLaneOk, approachOk, streetOk};
 use crate::edition::crosses_nothing;
 use crate::edition::edition_ok;
@@ -11,17 +12,20 @@ use crate::edition::marks_ok;
 use crate::edition::most_feet;
 use crate::edition::most_nodes;
 use crate::edition::most_segments;
+use crate::fields;
 use crate::frame::feet_of;
 use crate::frame::word_at;
 
 // Edition, nodes and segments of a head.
 pub fn head_ok(h: &[u8]) -> bool
-    requires { ⌜ 6 < length (now h) ⌝ }
+    requires { ⌜ headBytes ≤ length (now h) ⌝ }
     ensures { λ r. ⌜ r ≡ headOk (now (h .entry)) ⌝ }
 {
-    let e = h[1];
-    let nodes = word_at(h, 2);
-    edition_ok(e) & ((1 <= nodes) & (nodes <= most_nodes(e))) & (word_at(h, 4) <= most_segments(e))
+    let e = h[fields::EDITION];
+    let nodes = word_at(h, fields::NODES);
+    edition_ok(e)
+        & ((1 <= nodes) & (nodes <= most_nodes(e)))
+        & (word_at(h, fields::SEGMENTS) <= most_segments(e))
 }
 
 // Both ends stand at a node below n, on a leg of it.
@@ -29,7 +33,10 @@ pub fn ends_ok(f: &[u8], n: usize) -> bool
     requires { ⌜ 29 < length (now f) ⌝ }
     ensures { λ r. ⌜ r ≡ endsOk n (now (f .entry)) ⌝ }
 {
-    (word_at(f, 1) < n) & (f[3] <= 7) & (word_at(f, 4) < n) & (f[6] <= 7)
+    (word_at(f, fields::NODE_A) < n)
+        & (f[fields::LEG_A] <= 7)
+        & (word_at(f, fields::NODE_B) < n)
+        & (f[fields::LEG_B] <= 7)
 }
 
 // Lanes, speed, reach and marks are those that the form may have.
@@ -38,11 +45,11 @@ fn form_ok(f: &[u8], e: u8) -> bool
     ensures { λ r. ⌜ r ≡ formOk e (now (f .entry)) ⌝ }
 {
     let x = extra_of(e);
-    let form = f[x + 9];
-    let lanes = f[x + 11];
-    let speed = f[x + 12];
-    let reach = f[x + 13];
-    let marks = f[x + 14];
+    let form = f[x + fields::FORM];
+    let lanes = f[x + fields::LANES];
+    let speed = f[x + fields::SPEED];
+    let reach = f[x + fields::REACH];
+    let marks = f[x + fields::MARKS];
     if form == 3 {
         return (lanes == 0) & (speed == 0) & (reach == 0) & (marks == 0);
     }
@@ -60,8 +67,8 @@ fn crossing_ok(f: &[u8], e: u8, i: usize) -> bool
     ensures { λ r. ⌜ r ≡ crossingOk e (now (f .entry)) i ⌝ }
 {
     let control = f[i];
-    let lanes = f[i + 1];
-    let speed = f[i + 2];
+    let lanes = f[i + fields::LANES_CROSSED];
+    let speed = f[i + fields::SPEED_CROSSED];
     if crosses_nothing(e, control) {
         return (lanes == 0) & (speed == 0);
     }
@@ -75,9 +82,9 @@ fn turn_lane_ok(f: &[u8], i: usize) -> bool
     requires { ⌜ i + 6 < length (now f) ⌝ }
     ensures { λ r. ⌜ r ≡ turnLaneOk (now (f .entry)) i ⌝ }
 {
-    let kind = f[i + 3];
-    let feet = word_at(f, i + 4);
-    let speed = f[i + 6];
+    let kind = f[i + fields::TURN_KIND];
+    let feet = word_at(f, i + fields::TURN_FEET);
+    let speed = f[i + fields::TURNING_SPEED];
     if kind == 0 {
         return (feet == 0) & (speed == 0);
     }
@@ -89,10 +96,10 @@ fn approach_ok(f: &[u8], e: u8, i: usize) -> bool
     requires { ⌜ i + 6 < length (now f) ⌝ }
     ensures { λ r. ⌜ r ≡ approachOk e (now (f .entry)) i ⌝ }
 {
-    if crossing_ok(f, e, i) {
-        return turn_lane_ok(f, i);
+    if !crossing_ok(f, e, i) {
+        return false;
     }
-    false
+    turn_lane_ok(f, i)
 }
 
 // All that a segment's frame has after its ends. A frame that is refused is rare, so each test is a branch of its own, which costs the others nothing.
@@ -102,15 +109,17 @@ pub fn street_ok(f: &[u8], e: u8) -> bool
 {
     let x = extra_of(e);
     let feet = feet_of(f, e);
-    let ways = f[x + 10];
-    if ((1 <= feet) & (feet <= most_feet(e))) & ((1 <= ways) & (ways <= 3)) {
-        if form_ok(f, e) {
-            if approach_ok(f, e, x + 15) {
-                return approach_ok(f, e, x + 22);
-            }
-            return false;
-        }
+    let ways = f[x + fields::WAYS];
+    let feet_ok = (1 <= feet) & (feet <= most_feet(e));
+    let ways_ok = (1 <= ways) & (ways <= 3);
+    if !(feet_ok & ways_ok) {
         return false;
     }
-    false
+    if !form_ok(f, e) {
+        return false;
+    }
+    if !approach_ok(f, e, x + fields::APPROACH_B) {
+        return false;
+    }
+    approach_ok(f, e, x + fields::APPROACH_A)
 }

@@ -1,4 +1,4 @@
--- General facts on booleans, lists and products that the other files need. None of them knows of frames or lines.
+-- General facts on lists, for every crate, and on what stands beside them: products of lengths, and tests that the code chains.
 -- Assumes nothing.
 use Prim.Native.Nat.{ℕ, suc, _+_, _*_, _≤_, _<_}
 use mathlib.Core.Bool.{Bool, true, false, cond, true≢false}

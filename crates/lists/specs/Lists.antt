@@ -1,4 +1,4 @@
--- A list without elements, and an element of a list.
+-- Lists of numbers: whether one has no element, and its element at a place.
 -- Assumes nothing.
 use Prim.Native.Nat.{ℕ}
 use mathlib.Core.Bool.{Bool, true, false}
@@ -9,6 +9,6 @@ abbrev pub isEmpty : List ℕ → Bool
 isEmpty [] = true
 isEmpty (x ∷ xs) = false
 
--- An element of the tree, a node or a leaf: how far a key lies below `top`, 0 for no key.
+-- The element at a place; 0 beyond the end.
 abbrev pub at : List ℕ → ℕ → ℕ
-at tree i = getD tree i 0
+at list i = getD list i 0

@@ -6,16 +6,16 @@ use mathlib.Core.Bool.{Bool, true, false, not, cond, _||_}
 use mathlib.Core.Path.{_≡_, refl, _∙_}
 use mathlib.Core.List.{List, [], _∷_}
 use native.Mathlib.Omega.{arith}
-use borrow.Author.Tests.{eqb-true, eqb-false, ne-eqb}
 use lib.Dec.{eqb}
 use lib.ListN.{length, getD, set, replicate, length-set, length-replicate, getD-replicate}
 use lib.Seq.{getD-set-same, getD-set-other}
+use borrow.Author.Tests.{eqb-true, eqb-false, ne-eqb}
 use Rattle.frames.specs.Ranges.{endsOk}
+use Rattle.frames.proofs.FrameLaws.{EndLimits, end-limits}
 use Rattle.network.specs.Legs.{cornerA, cornerB, isIn, legsFree, taking}
 use Rattle.network.specs.Faults.{segmentFault}
 use Rattle.network.specs.Steps.Corners.{leaves, Indexed}
 use Rattle.network.specs.Steps.Checks.{freeIn, claimed, indexFault}
-use Rattle.frames.proofs.FrameLaws.{EndLimits, end-limits}
 
 pub corners-few : (n : ℕ) (f : List ℕ) → n ≤ 1000 → endsOk n f ≡ true → (cornerA f < 8000) × (cornerB f < 8000)
 corners-few n f h e = let l : EndLimits n f = end-limits n f e in (omega arith, omega arith)

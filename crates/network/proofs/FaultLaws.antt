@@ -1,4 +1,5 @@
--- A segment's frame without a fault.
+-- A segment's frame with no fault follows the rules, is one that S allows and has its legs free; and one that has all this has no fault: each test of
+-- `lineFault` in turn.
 -- Assumes nothing.
 use Prim.Native.Nat.{ℕ}
 use mathlib.Core.Bool.{Bool, true, false, _&&_}
@@ -6,16 +7,16 @@ use mathlib.Core.Path.{_≡_, refl}
 use mathlib.Core.List.{List}
 use native.Mathlib.Omega.{arith}
 use lib.Dec.{eqb}
-use Rattle.frames.specs.Ranges.{endsOk, streetOk}
-use Rattle.refusals.specs.Numbers.{unless}
 use Rattle.refusals.specs.declared.Refusal.the-variants.{WrongField, LegTaken, WrongCount}
+use Rattle.refusals.specs.Numbers.{unless}
 use Rattle.frames.specs.Edition.{frameBytes}
-use Rattle.network.specs.Legs.{legsFree}
-use Rattle.frames.proofs.EditionLaws.{frame-least}
-use Rattle.network.specs.Faults.{segmentFault}
+use Rattle.frames.specs.Ranges.{endsOk, streetOk}
 use Rattle.frames.specs.Follows.{SegmentFollows}
+use Rattle.frames.proofs.EditionLaws.{frame-least}
 use Rattle.frames.proofs.FrameLaws.{Framed, framed-has}
 use Rattle.frames.proofs.FaultLaws.{framed-is}
+use Rattle.network.specs.Legs.{legsFree}
+use Rattle.network.specs.Faults.{segmentFault}
 
 pub unless-and : (a b : Bool) → eqb (unless a WrongField (unless b LegTaken 0)) 0 ≡ (a && b)
 unless-and false b = refl

@@ -1,17 +1,15 @@
--- Frame after frame finds its legs free exactly when no corner of all their ends comes twice: by induction on the frames, with the legs taken
--- before them apart from all their ends.
+-- One frame finds its legs free exactly where neither of its corners is taken and the two are not one.
 -- Assumes nothing.
 use Prim.Native.Nat.{ℕ}
 use mathlib.Core.Bool.{true, false, not, _&&_}
 use mathlib.Core.Path.{_≡_, subst}
 use mathlib.Core.List.{List}
-use borrow.Author.Tests.{ne-eqb, not-true}
 use lib.Dec.{eqb}
+use borrow.Author.Tests.{ne-eqb, not-true}
 use Rattle.lists.proofs.Facts.{and-true}
-use Rattle.network.specs.Legs.{cornerA, cornerB, isIn, legsFree}
 use Rattle.lists.proofs.Lists.{true-is-false}
+use Rattle.network.specs.Legs.{cornerA, cornerB, isIn, legsFree}
 
--- ---- of one frame
 pub record Free (taken f : List ℕ) : Type 0 where
   pub new-a : isIn (cornerA f) taken ≡ false
   pub new-b : isIn (cornerB f) taken ≡ false

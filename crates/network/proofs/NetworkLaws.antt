@@ -8,22 +8,22 @@ use mathlib.Core.Logic.{_⊎_, inl, inr, ⊎-elim}
 use mathlib.Core.List.{List, []}
 use native.Mathlib.Omega.{arith}
 use native.Mathlib.Nat.{mul-zero, mul-le-mul-left, le-of-suc-le-suc}
-use borrow.Author.Tests.{eqb-true, eq-eqb}
 use lib.Dec.{eqb}
 use lib.ListN.{length, take, drop}
 use lib.Seq.{drop-drop}
+use borrow.Author.Tests.{eqb-true, eq-eqb}
 use Rattle.lists.proofs.Facts.{and-true, or-right}
+use Rattle.lists.proofs.Lists.{times-suc, times-next, part-element}
 use Rattle.frames.specs.Edition.{frameBytes, mostNodes, mostSegments}
 use Rattle.frames.specs.Frame.{byte, word}
-use Rattle.network.specs.Legs.{corner, cornerA, cornerB, isIn, taking}
 use Rattle.frames.specs.Faults.{headFault}
+use Rattle.frames.specs.Follows.{HeadFollows, SegmentFollows}
+use Rattle.frames.proofs.FrameLaws.{head-limits, HeadLimits}
+use Rattle.frames.proofs.FaultLaws.{head-follows}
+use Rattle.network.specs.Legs.{corner, cornerA, cornerB, isIn, taking}
 use Rattle.network.specs.Faults.{segmentFault}
 use Rattle.network.specs.Network.{keptBytes, headOf, editionOf, nodesOf, segmentsOf, frameOf, framesOk, isNetwork}
 use Rattle.network.specs.Steps.Corners.{leaves, cornersFrom, cornersOf, LeavesBy}
-use Rattle.frames.specs.Follows.{HeadFollows, SegmentFollows}
-use Rattle.lists.proofs.Lists.{times-suc, times-next, part-element}
-use Rattle.frames.proofs.FrameLaws.{head-limits, HeadLimits}
-use Rattle.frames.proofs.FaultLaws.{head-follows}
 use Rattle.network.proofs.FaultLaws.{Faultless, faultless}
 use Rattle.network.proofs.LegLaws.{Free, in-apart, free}
 

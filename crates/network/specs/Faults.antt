@@ -1,17 +1,21 @@
--- Document 01, "Read": the fault of a segment's frame.
+-- Document 01, "Read": the first fault of a segment's line.
 -- Assumes nothing.
 use Prim.Native.Nat.{ℕ}
 use mathlib.Core.Bool.{Bool, _&&_}
 use mathlib.Core.List.{List}
-use Rattle.refusals.specs.Numbers.{unless}
 use Rattle.refusals.specs.declared.Refusal.the-variants.{WrongField, WrongCount, LegTaken}
+use Rattle.refusals.specs.Numbers.{unless}
 use Rattle.frames.specs.Edition.{frameBytes}
 use Rattle.frames.specs.Ranges.{endsOk, streetOk}
-use Rattle.network.specs.Legs.{legsFree}
 use Rattle.frames.specs.Faults.{framed}
+use Rattle.network.specs.Legs.{legsFree}
 
 -- A segment's line in a network of edition e and n nodes: 5 a segment beyond S (`more` says whether S allows one more); 4 a field against the
--- ranges or rules; 6 a leg taken already.
+-- ranges or rules; 6 a leg taken already (`free` says whether its legs are free).
+abbrev pub lineFault : ℕ → ℕ → Bool → Bool → List ℕ → ℕ
+lineFault e n more free f =
+    framed 2 (frameBytes e) f (unless more WrongCount (unless (endsOk n f && streetOk e f) WrongField (unless free LegTaken 0)))
+
+-- The same, after lines that took these legs.
 unfoldable pub segmentFault : ℕ → ℕ → Bool → List ℕ → List ℕ → ℕ
-segmentFault e n more taken f =
-    framed 2 (frameBytes e) f (unless more WrongCount (unless (endsOk n f && streetOk e f) WrongField (unless (legsFree taken f) LegTaken 0)))
+segmentFault e n more taken f = lineFault e n more (legsFree taken f) f

@@ -7,8 +7,8 @@ use lib.Dec.{eqb}
 use lib.ListN.{length, take, drop}
 use Rattle.frames.specs.Edition.{frameBytes}
 use Rattle.frames.specs.Frame.{headBytes, edition, nodes, segments}
-use Rattle.network.specs.Legs.{taking}
 use Rattle.frames.specs.Faults.{headFault}
+use Rattle.network.specs.Legs.{taking}
 use Rattle.network.specs.Faults.{segmentFault}
 
 -- The head of a network; its edition, nodes N and segments S; and the frame of segment s.

@@ -1,10 +1,8 @@
 // The corner index: for each leg of each node, 0 while it is free, else 1 + the run that leaves by it.
-ghost use Prim.Native.Nat.{_<_};
 ghost use mathlib.Core.List.{[]};
-ghost use lib.ListN.{length};
-ghost use Rattle.network.specs.Legs.{cornerA, cornerB};
 ghost use Rattle.network.specs.Steps.Corners.{Indexed};
-ghost use Rattle.network.specs.Steps.Checks.{Claimed};
+ghost use Rattle.network.specs.Steps.Checks.{Claimable, Claimed};
+use frames::fields;
 use frames::frame::byte_at;
 use frames::frame::word_at;
 
@@ -17,11 +15,11 @@ pub fn no_corners() -> [u16; 8000]
 
 // Takes both legs of segment s where they are free and not one leg; else it leaves the index as it was.
 pub fn claim_legs(f: &[u8], s: usize, index: &mut [u16; 8000]) -> bool
-    requires { ⌜ (29 < length (now f)) × (s < 1000) × (cornerA (now f) < 8000) × (cornerB (now f) < 8000) ⌝ }
+    requires { ⌜ Claimable (now f) s ⌝ }
     ensures { λ r. ⌜ Claimed (now (f .entry)) s (now (index .entry)) (now (index .exit)) r ⌝ }
 {
-    let a = word_at(f, 1) * 8 + byte_at(f, 3);
-    let b = word_at(f, 4) * 8 + byte_at(f, 6);
+    let a = word_at(f, fields::NODE_A) * 8 + byte_at(f, fields::LEG_A);
+    let b = word_at(f, fields::NODE_B) * 8 + byte_at(f, fields::LEG_B);
     if (index[a] == 0) & (index[b] == 0) & (a != b) {
         index[a] = (s * 2 + 1) as u16;
         index[b] = (s * 2 + 2) as u16;

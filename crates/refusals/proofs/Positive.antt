@@ -1,7 +1,7 @@
 -- No refusal has the number 0, which stands for none: each case by its number.
 -- Assumes nothing.
-use native.Mathlib.Omega.{arith}
 use mathlib.Core.Path.{_≡_}
+use native.Mathlib.Omega.{arith}
 use Rattle.refusals.specs.declared.Refusal.{Refusal}
 use Rattle.refusals.specs.declared.Refusal.the-variants.{NotDigits, WrongCheck, WrongFrame, WrongField, WrongCount, LegTaken, OutputTooShort}
 use Rattle.refusals.specs.declared.Refusal.the-variants.{NotANetwork, NoSuchNode, NoSuchTolerance, NoRoom, NoSuchRun, NoMovement}

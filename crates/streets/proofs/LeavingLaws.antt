@@ -3,29 +3,29 @@
 -- node's eight entries. So the one run that leaves by the leg where another arrives is the other run of that one's segment. A run has 1 foot at least,
 -- and at most what its edition allows.
 -- Assumes nothing.
+use Prim.Native.Nat.{ℕ, _+_, _*_, _-_, _/_, _%_, _≤_, _<_}
 use mathlib.Core.Path.{_≡_, refl, sym, _∙_, ap}
 use mathlib.Core.Bool.{true, false, _&&_}
 use mathlib.Core.List.{List}
 use mathlib.Core.Logic.{inl, inr, ⊎-elim}
-use Prim.Native.Nat.{ℕ, _+_, _*_, _-_, _/_, _%_, _≤_, _<_}
 use native.Mathlib.Numerals.{add-one}
 use native.Mathlib.Omega.{arith}
 use lib.ListN.{getD}
 use borrow.Author.Tests.{eq-eqb, ne-eqb, eqb-true, eqb-false}
-use Rattle.lists.proofs.Facts.{and-true, bool-cases}
 use Rattle.lists.specs.Lists.{at}
+use Rattle.lists.proofs.Facts.{and-true, bool-cases}
 use Rattle.frames.specs.Edition.{frameBytes, mostFeet}
 use Rattle.frames.specs.Frame.{feet, ways, approachA, approachB}
 use Rattle.frames.specs.Ranges.{formOk, approachOk, streetOk, within}
+use Rattle.frames.proofs.RangeLaws.{within-low, within-high}
 use Rattle.network.specs.Legs.{corner, cornerA, cornerB}
 use Rattle.network.specs.Network.{editionOf, nodesOf, frameOf, isNetwork}
 use Rattle.network.specs.Steps.Corners.{leaves, cornersOf, Indexed, LeavesBy}
-use Rattle.frames.proofs.RangeLaws.{within-low, within-high}
 use Rattle.network.proofs.NetworkLaws.{passed, frame-follows, corner-below, corner-same, run-leaves, leaves-tells}
 use Rattle.streets.specs.Runs.{runsOf, segmentOf, ridesToB, frameOfRun, start, leavingLeg, finish, arrivalLeg, feetOf, RunOf}
 use Rattle.streets.specs.Steps.Places.{SegmentAt}
-use Rattle.streets.proofs.EndLaws.{segment-of-run, segment-placed, start-node, leaving-leg-is}
 use Rattle.streets.specs.Steps.Leaving.{Entry}
+use Rattle.streets.proofs.EndLaws.{segment-of-run, segment-placed, start-node, leaving-leg-is}
 
 -- ---- feet
 street-feet : (e : ℕ) (f : List ℕ) → streetOk e f ≡ true → (1 ≤ feet e f) × (feet e f ≤ mostFeet e)

@@ -1,18 +1,19 @@
--- No leg is taken twice exactly where the corners of all ends are distinct.
+-- Frame after frame finds its legs free exactly when no corner of all their ends comes twice: by induction on the frames, with the legs taken
+-- before them apart from all their ends.
 -- Assumes nothing.
 use Prim.Native.Nat.{ℕ}
 use mathlib.Core.Bool.{Bool, true, false, _||_}
 use mathlib.Core.Path.{_≡_, refl}
 use mathlib.Core.List.{List, [], _∷_}
-use borrow.Author.Tests.{eq-eqb}
 use lib.Dec.{eqb}
+use borrow.Author.Tests.{eq-eqb}
 use Rattle.lists.proofs.Facts.{bool-cases, or-right}
-use Rattle.network.specs.Legs.{cornerA, cornerB, isIn, legsFree, taking}
-use Rattle.text.specs.Accepted.{endsOf, Distinct}
 use Rattle.lists.proofs.Lists.{true-is-false, is-false}
+use Rattle.network.specs.Legs.{cornerA, cornerB, isIn, legsFree, taking}
 use Rattle.network.proofs.LegLaws.{Free, free, in-apart, legs-free}
+use Rattle.text.specs.Accepted.{endsOf, Distinct}
 
--- ---- of frame after frame
+-- frame after frame finds its legs free
 abbrev pub Fresh : List ℕ → List (List ℕ) → Type 0
 Fresh taken [] = Unit {0}
 Fresh taken (f ∷ frames) = (legsFree taken f ≡ true) × Fresh (taking taken f) frames

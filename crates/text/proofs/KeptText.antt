@@ -7,30 +7,30 @@ use mathlib.Core.Path.{_≡_, refl, sym, ap, ap₂, _∙_}
 use mathlib.Core.List.{List, [], _++_, append-nil, append-assoc}
 use native.Mathlib.Omega.{arith}
 use native.Mathlib.Nat.{mul-zero}
-use borrow.Author.Tests.{leb-true}
 use lib.Dec.{leb}
 use lib.ListN.{length, drop, length-append, length-drop}
+use borrow.Author.Tests.{leb-true}
+use Rattle.lists.specs.Lists.{isEmpty}
+use Rattle.lists.proofs.Lists.{times-suc}
 use Rattle.refusals.specs.declared.Refusal.{Refusal}
 use Rattle.refusals.specs.Numbers.{numberOf}
-use Rattle.text.specs.declared.ReadAnswer.the-variants.{Refused, Kept}
-use Rattle.digits.specs.Digits.{lineOf, bytesOf, restOf}
 use Rattle.frames.specs.Edition.{frameBytes}
 use Rattle.frames.specs.Frame.{edition, nodes, segments}
-use Rattle.text.specs.Read.{Reading, unlessFault, segmentLines, readOf, refused, kept}
-use Rattle.lists.specs.Lists.{isEmpty}
-use Rattle.network.specs.Network.{keptBytes}
-use Rattle.network.specs.Legs.{taking}
-use Rattle.digits.specs.Steps.Scan.{spelled}
-use Rattle.text.specs.Steps.Spelled.{spelledLines, spelledText}
-use Rattle.text.specs.Told.{told, toldOf}
 use Rattle.frames.specs.Follows.{HeadFollows}
-use Rattle.lists.proofs.Lists.{times-suc}
 use Rattle.frames.proofs.EditionLaws.{frame-least}
-use Rattle.digits.proofs.DigitLaws.{line-after, line-spells, length-spelled}
-use Rattle.text.proofs.Spelled.{length-spelled-lines}
 use Rattle.frames.proofs.FrameLaws.{head-limits}
-use Rattle.network.proofs.FaultLaws.{Faultless, faultless}
 use Rattle.frames.proofs.FaultLaws.{head-follows}
+use Rattle.network.specs.Legs.{taking}
+use Rattle.network.specs.Network.{keptBytes}
+use Rattle.network.proofs.FaultLaws.{Faultless, faultless}
+use Rattle.digits.specs.Digits.{lineOf, bytesOf, restOf}
+use Rattle.digits.specs.Steps.Scan.{spelled}
+use Rattle.digits.proofs.DigitLaws.{line-after, line-spells, length-spelled}
+use Rattle.text.specs.declared.ReadAnswer.the-variants.{Refused, Kept}
+use Rattle.text.specs.Read.{Reading, unlessFault, segmentLines, readOf, refused, kept}
+use Rattle.text.specs.Told.{told, toldOf}
+use Rattle.text.specs.Steps.Spelled.{spelledLines, spelledText}
+use Rattle.text.proofs.Spelled.{length-spelled-lines}
 
 -- ---- an acceptance passed each test
 refused-is-kept : {n l : ℕ} {b : List ℕ} {A : Type 0} → refused n l ≡ kept b → A

@@ -2,25 +2,24 @@
 -- it; a faulty line has its fault's number whatever is tested later.
 -- Assumes nothing.
 use Prim.Native.Nat.{ℕ, _+_, _*_}
-use mathlib.Core.Bool.{Bool}
 use mathlib.Core.Path.{_≡_, sym, subst, subst₂}
 use mathlib.Core.List.{List}
 use native.Mathlib.Omega.{arith}
-use borrow.Author.Tests.{ne-eqb}
 use lib.ListN.{length}
+use borrow.Author.Tests.{ne-eqb}
 use Rattle.refusals.specs.declared.Refusal.{Refusal}
 use Rattle.refusals.specs.Numbers.{numberOf}
 use Rattle.refusals.proofs.Positive.{positive}
+use Rattle.frames.specs.declared.Head.{Head}
+use Rattle.frames.specs.Faults.{framed}
+use Rattle.frames.proofs.FrameLaws.{framed-bad}
 use Rattle.text.specs.declared.read.LineRead.{LineRead}
 use Rattle.text.specs.declared.read.LineRead.the-variants.{Frame, Faulty}
-use Rattle.frames.specs.Faults.{framed}
-use Rattle.text.specs.Steps.Lines.{bytesAt, Tells, FrameRead, SegmentJudged}
-use Rattle.network.specs.Steps.Checks.{indexFault}
-use Rattle.frames.proofs.FrameLaws.{framed-bad}
+use Rattle.text.specs.Steps.Lines.{bytesAt, Tells, FrameRead, faultAfter, SegmentJudged}
 
 -- a fault leaves the index as it was
-pub judged-faulty : {f : List ℕ} {next e n : ℕ} {more : Bool} {s : ℕ} {d : List ℕ} (fault : Refusal) → indexFault e n more d f ≡ numberOf fault
-    → SegmentJudged f next e n more s d d (Faulty fault)
+pub judged-faulty : {f : List ℕ} {next : ℕ} {head : Head} {s : ℕ} {d : List ℕ} (fault : Refusal) → faultAfter head s d f ≡ numberOf fault
+    → SegmentJudged f next head s d d (Faulty fault)
 judged-faulty fault h = record { answer = h; index = rw (h, ne-eqb (numberOf fault) 0 (positive fault)) }
 
 pub tells-frame : (number next : ℕ) {at : ℕ} {r : LineRead} → Tells number next r → r ≡ Frame at → (number ≡ 0) × (at ≡ next)

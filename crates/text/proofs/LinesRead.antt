@@ -7,34 +7,33 @@ use mathlib.Core.Path.{_≡_, refl, sym, ap, _∙_, subst, subst₂}
 use mathlib.Core.List.{List, [], _++_}
 use native.Mathlib.Omega.{arith}
 use native.Mathlib.Nat.{sub-zero, mul-zero}
-use borrow.Author.Tests.{ltb-true, ltb-false}
 use lib.Dec.{ltb}
 use lib.ListN.{length, drop, length-append}
+use borrow.Author.Tests.{ltb-true, ltb-false}
+use Rattle.lists.specs.Lists.{isEmpty}
+use Rattle.lists.proofs.Lists.{drop-some, drop-none, times-next}
 use Rattle.refusals.specs.declared.Refusal.{Refusal}
+use Rattle.refusals.specs.declared.Refusal.the-variants.{WrongCount}
 use Rattle.refusals.specs.Numbers.{numberOf}
 use Rattle.refusals.proofs.Positive.{positive}
-use Rattle.refusals.specs.declared.Refusal.the-variants.{WrongCount}
+use Rattle.frames.specs.declared.Head.{Head}
+use Rattle.frames.specs.Edition.{frameBytes}
+use Rattle.frames.specs.Steps.Sizes.{Limited}
+use Rattle.frames.proofs.EditionLaws.{frame-least}
+use Rattle.network.specs.Legs.{taking}
+use Rattle.network.specs.Faults.{segmentFault}
+use Rattle.network.specs.Steps.Corners.{Indexed}
+use Rattle.network.specs.Steps.Checks.{claimed}
+use Rattle.network.proofs.CornerLaws.{corners-few, index-fault, claimed-indexed}
+use Rattle.network.proofs.FaultLaws.{Faultless, faultless}
+use Rattle.digits.specs.Digits.{lineOf, bytesOf, restOf}
+use Rattle.digits.proofs.DigitLaws.{line-after}
 use Rattle.text.specs.declared.read.LineRead.{LineRead}
 use Rattle.text.specs.declared.read.LineRead.the-variants.{Frame, Faulty}
 use Rattle.text.specs.declared.ReadAnswer.the-variants.{Refused, Kept}
-use Rattle.digits.specs.Digits.{lineOf, bytesOf, restOf}
-use Rattle.frames.specs.Edition.{frameBytes}
-use Rattle.frames.specs.Frame.{nodes, segments}
-use Rattle.frames.specs.Ranges.{headOk}
-use Rattle.network.specs.Legs.{taking}
 use Rattle.text.specs.Read.{Reading, unlessFault, segmentLines, refused, kept}
-use Rattle.lists.specs.Lists.{isEmpty}
-use Rattle.network.specs.Faults.{segmentFault}
-use Rattle.network.specs.Steps.Corners.{Indexed}
-use Rattle.network.specs.Steps.Checks.{claimed, indexFault}
 use Rattle.text.specs.Told.{told, toldOf, written}
-use Rattle.text.specs.Steps.Lines.{bytesAt, SegmentJudged}
-use Rattle.lists.proofs.Lists.{drop-some, drop-none, times-next}
-use Rattle.frames.proofs.EditionLaws.{frame-least}
-use Rattle.digits.proofs.DigitLaws.{line-after}
-use Rattle.frames.proofs.FrameLaws.{head-limits}
-use Rattle.network.proofs.CornerLaws.{corners-few, index-fault, claimed-indexed}
-use Rattle.network.proofs.FaultLaws.{Faultless, faultless}
+use Rattle.text.specs.Steps.Lines.{bytesAt, faultAfter, LineJudged}
 use Rattle.text.proofs.LineLaws.{tells-frame, tells-fault}
 
 -- ---- the cases of `segmentLines`
@@ -73,101 +72,97 @@ module _ (e n at : ℕ) (taken sofar text : List ℕ) where
   line-beyond x h f = rw (h, f)
 
 -- ---- the loop
-pub record Going (t h : List ℕ) (start e n segments s at : ℕ) (d : List ℕ) : Type 0 where
+pub record Going (t h : List ℕ) (start : ℕ) (head : Head) (s at : ℕ) (d : List ℕ) : Type 0 where
   pub taken : List ℕ
   pub sofar : List ℕ
   pub runs : length taken ≡ 2 * s
-  pub long : length sofar ≡ 7 + frameBytes e * s
-  pub low : s ≤ segments
-  pub few-segments : segments ≤ 1000
-  pub few-nodes : n ≤ 1000
+  pub long : length sofar ≡ 7 + frameBytes (head .edition) * s
+  pub low : s ≤ head .segments
+  pub limited : Limited head
   pub place : at ≤ length t
   pub indexed : Indexed taken d
-  pub whole : segmentLines e n (segments - s) (s + 2) taken sofar (drop at t) ≡ segmentLines e n segments 2 [] h (drop start t)
+  pub whole : segmentLines (head .edition) (head .nodes) (head .segments - s) (s + 2) taken sofar (drop at t) ≡ segmentLines (head .edition) (head .nodes) (head .segments) 2 [] h (drop start t)
 
-pub starts : {t h : List ℕ} {start e n m : ℕ} {d : List ℕ} → start ≤ length t → headOk h ≡ true → length h ≡ 7 → n ≡ nodes h
-    → m ≡ segments h → Indexed [] d
-    → Going t h start e n m 0 start d
-starts {t} {h} {start} {e} a o l p q x =
+pub starts : {t h : List ℕ} {start : ℕ} {head : Head} {d : List ℕ} → start ≤ length t → length h ≡ 7 → Limited head → Indexed [] d
+    → Going t h start head 0 start d
+starts {t} {h} {start} {head} a l o x =
     record {
       taken = [];
       sofar = h;
       runs = refl;
-      long = l ∙ ap (λ (z : ℕ). 7 + z) (sym (mul-zero (frameBytes e)));
+      long = l ∙ ap (λ (z : ℕ). 7 + z) (sym (mul-zero (frameBytes (head .edition))));
       low = omega arith;
-      few-segments = omega (arith, q, head-limits h o .few-segments);
-      few-nodes = omega (arith, p, head-limits h o .few-nodes);
+      limited = o;
       place = a;
       indexed = x;
       whole = rw sub-zero;
     }
 
-module _ {t h : List ℕ} {start e n segments s at : ℕ} {d : List ℕ} (w : Going t h start e n segments s at d) where
+module _ {t h : List ℕ} {start : ℕ} {head : Head} {s at : ℕ} {d : List ℕ} (w : Going t h start head s at d) where
   -- a line's number by the index is its number by the legs taken
-  numbered : {x : ℕ} → indexFault e n (ltb s segments) d (bytesAt t at) ≡ x → segmentFault e n (ltb s segments) (w .taken) (bytesAt t at) ≡ x
-  numbered f = sym (index-fault (w .indexed) e n (ltb s segments) (bytesAt t at) (w .few-nodes)) ∙ f
+  numbered : {x : ℕ} → faultAfter head s d (bytesAt t at) ≡ x → segmentFault (head .edition) (head .nodes) (ltb s (head .segments)) (w .taken) (bytesAt t at) ≡ x
+  numbered f = sym (index-fault (w .indexed) (head .edition) (head .nodes) (ltb s (head .segments)) (bytesAt t at) (w .limited .few-nodes)) ∙ f
 
   pub refuses : {d′ : List ℕ} {r : LineRead} {fault : Refusal} → at < length t
-      → SegmentJudged (bytesAt t at) (at + 2 * frameBytes e + 1) e n (ltb s segments) s d d′ r → r ≡ Faulty fault
-      → told (Refused fault (s + 2)) ≡ toldOf (segmentLines e n segments 2 [] h (drop start t))
+      → LineJudged t at head s d d′ r → r ≡ Faulty fault
+      → told (Refused fault (s + 2)) ≡ toldOf (segmentLines (head .edition) (head .nodes) (head .segments) 2 [] h (drop start t))
   refuses {d′} {r} {fault} l g x =
-      ap toldOf (sym (go (ltb s segments) refl (numbered (tells-fault _ _ (g .answer) x))) ∙ w .whole)
+      ap toldOf (sym (go (ltb s (head .segments)) refl (numbered (tells-fault _ _ (g .answer) x))) ∙ w .whole)
     where
-      go : (m : Bool) → ltb s segments ≡ m → segmentFault e n m (w .taken) (bytesAt t at) ≡ numberOf fault
-          → segmentLines e n (segments - s) (s + 2) (w .taken) (w .sofar) (drop at t) ≡ refused (numberOf fault) (s + 2)
+      go : (m : Bool) → ltb s (head .segments) ≡ m → segmentFault (head .edition) (head .nodes) m (w .taken) (bytesAt t at) ≡ numberOf fault
+          → segmentLines (head .edition) (head .nodes) (head .segments - s) (s + 2) (w .taken) (w .sofar) (drop at t) ≡ refused (numberOf fault) (s + 2)
       go true p f =
-          let z : segments - s ≡ suc (segments - (s + 1)) = omega (arith, ltb-true s segments p) in
-          rw z (bad-line e n (s + 2) (w .taken) (w .sofar) (drop at t) (segments - (s + 1)) _ (drop-some t at l) f (positive fault))
+          let z : head .segments - s ≡ suc (head .segments - (s + 1)) = omega (arith, ltb-true s (head .segments) p) in
+          rw z (bad-line (head .edition) (head .nodes) (s + 2) (w .taken) (w .sofar) (drop at t) (head .segments - (s + 1)) _ (drop-some t at l) f (positive fault))
       go false p f =
-          let z : segments - s ≡ 0 = omega (arith, ltb-false s segments p) in
-          rw z (line-beyond e n (s + 2) (w .taken) (w .sofar) (drop at t) _ (drop-some t at l) f)
+          let z : head .segments - s ≡ 0 = omega (arith, ltb-false s (head .segments) p) in
+          rw z (line-beyond (head .edition) (head .nodes) (s + 2) (w .taken) (w .sofar) (drop at t) _ (drop-some t at l) f)
 
-  pub lacks : length t ≤ at → s < segments → told (Refused WrongCount (s + 2)) ≡ toldOf (segmentLines e n segments 2 [] h (drop start t))
+  pub lacks : length t ≤ at → s < head .segments → told (Refused WrongCount (s + 2)) ≡ toldOf (segmentLines (head .edition) (head .nodes) (head .segments) 2 [] h (drop start t))
   lacks l m =
-      let z : segments - s ≡ suc (segments - (s + 1)) = omega arith in
-      ap toldOf (sym (too-few e n (s + 2) (w .taken) (w .sofar) (drop at t) (segments - (s + 1)) (drop-none t at l)) ∙ rw z at (w .whole))
+      let z : head .segments - s ≡ suc (head .segments - (s + 1)) = omega arith in
+      ap toldOf (sym (too-few (head .edition) (head .nodes) (s + 2) (w .taken) (w .sofar) (drop at t) (head .segments - (s + 1)) (drop-none t at l)) ∙ rw z at (w .whole))
 
-  pub keeps : {size : ℕ} → size ≡ frameBytes e → length t ≤ at → segments ≤ s
-      → told (Kept (7 + size * segments)) ≡ toldOf (segmentLines e n segments 2 [] h (drop start t))
-  keeps {size} q l m =
-      let z : segments - s ≡ 0 = omega arith in
-      let y : segments ≡ s = omega (arith, w .low) in
-      ap written (subst₂ (λ (i j : ℕ). 7 + i * j ≡ length (w .sofar)) (sym q) (sym y) (sym (w .long)))
-      ∙ ap toldOf (sym (all-kept e n (s + 2) (w .taken) (w .sofar) (drop at t) (drop-none t at l)) ∙ rw z at (w .whole))
+  pub keeps : {count : ℕ} → count ≡ 7 + frameBytes (head .edition) * head .segments → length t ≤ at → head .segments ≤ s
+      → told (Kept count) ≡ toldOf (segmentLines (head .edition) (head .nodes) (head .segments) 2 [] h (drop start t))
+  keeps {count} q l m =
+      let z : head .segments - s ≡ 0 = omega arith in
+      let y : head .segments ≡ s = omega (arith, w .low) in
+      ap written (q ∙ ap (λ (i : ℕ). 7 + frameBytes (head .edition) * i) y ∙ sym (w .long))
+      ∙ ap toldOf (sym (all-kept (head .edition) (head .nodes) (s + 2) (w .taken) (w .sofar) (drop at t) (drop-none t at l)) ∙ rw z at (w .whole))
 
   pub goes-on : {d′ : List ℕ} {r : LineRead} {next : ℕ} → at < length t
-      → SegmentJudged (bytesAt t at) (at + 2 * frameBytes e + 1) e n (ltb s segments) s d d′ r → r ≡ Frame next
-      → Going t h start e n segments (s + 1) next d′
+      → LineJudged t at head s d d′ r → r ≡ Frame next
+      → Going t h start head (s + 1) next d′
   goes-on {d′} {r} {next} l g x =
       let f : List ℕ = bytesAt t at in
-      let q : (indexFault e n (ltb s segments) d f ≡ 0) × (next ≡ at + 2 * frameBytes e + 1) = tells-frame _ _ (g .answer) x in
-      let k : Faultless e n (ltb s segments) (w .taken) f = faultless e n (ltb s segments) (w .taken) f (numbered (q .0)) in
-      let z : segmentFault e n true (w .taken) f ≡ 0 =
-      subst (λ (y : Bool). segmentFault e n y (w .taken) f ≡ 0) (k .counted) (numbered (q .0)) in
-      let o = corners-few n f (w .few-nodes) (k .follows .ends) in
-      let y : length f ≡ frameBytes e = k .follows .size in
-      let v = line-after t at (frameBytes e) (w .place) (omega (arith, frame-least e)) y in
-      let e₀ : next ≡ at + (2 * frameBytes e + 1) = omega (arith, q .1) in
-      let below : s < segments = ltb-true s segments (k .counted) in
+      let q : (faultAfter head s d f ≡ 0) × (next ≡ at + 2 * frameBytes (head .edition) + 1) = tells-frame _ _ (g .answer) x in
+      let k : Faultless (head .edition) (head .nodes) (ltb s (head .segments)) (w .taken) f = faultless (head .edition) (head .nodes) (ltb s (head .segments)) (w .taken) f (numbered (q .0)) in
+      let z : segmentFault (head .edition) (head .nodes) true (w .taken) f ≡ 0 =
+      subst (λ (y : Bool). segmentFault (head .edition) (head .nodes) y (w .taken) f ≡ 0) (k .counted) (numbered (q .0)) in
+      let o = corners-few (head .nodes) f (w .limited .few-nodes) (k .follows .ends) in
+      let y : length f ≡ frameBytes (head .edition) = k .follows .size in
+      let v = line-after t at (frameBytes (head .edition)) (w .place) (omega (arith, frame-least (head .edition))) y in
+      let e₀ : next ≡ at + (2 * frameBytes (head .edition) + 1) = omega (arith, q .1) in
+      let below : s < head .segments = ltb-true s (head .segments) (k .counted) in
       let i : d′ ≡ claimed d s f = g .index ∙ rw (q .0) in
       record {
         taken = taking (w .taken) f;
         sofar = w .sofar ++ f;
         runs = omega (arith, w .runs);
-        long = omega (arith, w .long, length-append (w .sofar) f, y, times-next (frameBytes e) s);
+        long = omega (arith, w .long, length-append (w .sofar) f, y, times-next (frameBytes (head .edition)) s);
         low = omega arith;
-        few-segments = w .few-segments;
-        few-nodes = w .few-nodes;
+        limited = w .limited;
         place = omega (arith, v .0, q .1);
         indexed = subst (λ (j : List ℕ). Indexed (taking (w .taken) f) j) (sym i) (claimed-indexed (w .indexed) s f (w .runs) (o .0) (o .1));
         whole =
             let e₁ : s + 1 + 2 ≡ s + 2 + 1 = omega arith in
             let e₂ : drop next t ≡ restOf (lineOf (drop at t)) = ap (λ (j : ℕ). drop j t) e₀ ∙ sym (v .1) in
-            let e₃ : suc (segments - (s + 1)) ≡ segments - s = omega arith in
+            let e₃ : suc (head .segments - (s + 1)) ≡ head .segments - s = omega arith in
             subst₂
-            (λ (j : ℕ) (u : List ℕ). segmentLines e n (segments - (s + 1)) j (taking (w .taken) f) (w .sofar ++ f) u
-            ≡ segmentLines e n segments 2 [] h (drop start t))
+            (λ (j : ℕ) (u : List ℕ). segmentLines (head .edition) (head .nodes) (head .segments - (s + 1)) j (taking (w .taken) f) (w .sofar ++ f) u
+            ≡ segmentLines (head .edition) (head .nodes) (head .segments) 2 [] h (drop start t))
             (sym e₁) (sym e₂)
-            (sym (good-line e n (s + 2) (w .taken) (w .sofar) (drop at t) (segments - (s + 1)) (drop-some t at l) z)
-            ∙ ap (λ (j : ℕ). segmentLines e n j (s + 2) (w .taken) (w .sofar) (drop at t)) e₃ ∙ w .whole);
+            (sym (good-line (head .edition) (head .nodes) (s + 2) (w .taken) (w .sofar) (drop at t) (head .segments - (s + 1)) (drop-some t at l) z)
+            ∙ ap (λ (j : ℕ). segmentLines (head .edition) (head .nodes) j (s + 2) (w .taken) (w .sofar) (drop at t)) e₃ ∙ w .whole);
       }

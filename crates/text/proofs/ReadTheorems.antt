@@ -1,5 +1,6 @@
 -- When Read accepts, in the words of demand 2, and which bytes Read could keep. The frames of a kept text are its lines' bytes; they follow the
--- rules and find their legs free, which is all that `segmentLines` and `framesOk` test, so both are induction on the list of frames, each way.
+-- rules and find their legs free, which is all that `segmentLines` and `framesOk` test, so both are induction on the list of frames, each way. What Read
+-- leaves at the front of the output, when it accepts, is therefore a network.
 -- Assumes nothing.
 use Prim.Native.Nat.{ℕ, zero, suc, _+_, _*_, _≤_}
 use mathlib.Core.Bool.{true}
@@ -8,32 +9,32 @@ use mathlib.Core.Logic.{_↔_}
 use mathlib.Core.List.{List, [], _∷_, _++_, append-nil, append-assoc}
 use native.Mathlib.Omega.{arith}
 use native.Mathlib.Nat.{mul-zero}
-use borrow.Author.Tests.{eq-eqb, le-leb}
 use lib.ListN.{length, take, drop, length-append, length-drop, take-append-drop}
 use lib.Seq.{take-at, drop-at}
-use Rattle.digits.specs.Digits.{line, lineOf, bytesOf, restOf}
+use borrow.Author.Tests.{eq-eqb, le-leb}
+use Rattle.lists.proofs.Lists.{times-suc, no-elements, is-empty}
 use Rattle.frames.specs.Edition.{frameBytes}
 use Rattle.frames.specs.Frame.{edition, nodes, segments}
-use Rattle.network.specs.Legs.{taking}
-use Rattle.text.specs.Read.{kept, segmentLines, readOf, Reading, refused}
 use Rattle.frames.specs.Faults.{headFault}
-use Rattle.network.specs.Faults.{segmentFault}
-use Rattle.network.specs.Network.{keptBytes, headOf, editionOf, nodesOf, segmentsOf, framesOk, isNetwork}
-use Rattle.text.specs.Text.{lineText, framesText, textOf, Bytes}
 use Rattle.frames.specs.Follows.{SegmentFollows}
-use Rattle.text.specs.Accepted.{count, joined, Each, linesText, Accepted}
-use Rattle.lists.proofs.Lists.{times-suc, no-elements, is-empty}
 use Rattle.frames.proofs.EditionLaws.{frame-least}
 use Rattle.frames.proofs.FaultLaws.{head-no-fault}
+use Rattle.network.specs.Legs.{taking}
+use Rattle.network.specs.Faults.{segmentFault}
+use Rattle.network.specs.Network.{keptBytes, headOf, editionOf, nodesOf, segmentsOf, framesOk, isNetwork}
 use Rattle.network.proofs.FaultLaws.{segment-no-fault}
-use Rattle.text.proofs.LinesRead.{all-kept, good-line}
-use Rattle.text.proofs.KeptText.{line-kept, none-left, head-kept}
 use Rattle.network.proofs.NetworkLaws.{passed, frames-passed}
-use Rattle.text.proofs.TextLaws.{bytes-append, bytes-parts, spelled-bytes, line-back, line-some, line-text}
-use Rattle.text.proofs.Distinct.{Fresh, fresh-is-distinct, distinct-is-fresh}
+use Rattle.digits.specs.Digits.{line, lineOf, bytesOf, restOf}
 use Rattle.text.specs.declared.ReadAnswer.{ReadAnswer}
 use Rattle.text.specs.declared.ReadAnswer.the-variants.{Kept}
+use Rattle.text.specs.Text.{lineText, framesText, textOf, Bytes}
+use Rattle.text.specs.Accepted.{count, joined, Each, linesText, Accepted}
+use Rattle.text.specs.Read.{kept, segmentLines, readOf, Reading, refused}
 use Rattle.text.specs.Told.{told, outputOf, ReadDid, written, toldOf}
+use Rattle.text.proofs.Distinct.{Fresh, fresh-is-distinct, distinct-is-fresh}
+use Rattle.text.proofs.KeptText.{line-kept, none-left, head-kept}
+use Rattle.text.proofs.LinesRead.{all-kept, good-line}
+use Rattle.text.proofs.TextLaws.{bytes-append, bytes-parts, spelled-bytes, line-back, line-some, line-text}
 
 -- frames that Read finds no fault with, one after the other
 record Good (e n : ℕ) (taken : List ℕ) (frames : List (List ℕ)) : Type 0 where
@@ -243,6 +244,8 @@ network-exactly bytes b = (
   λ (x : (text : List ℕ) × (room : ℕ) × (readOf text room ≡ kept bytes)). accepted-network (x .0) (x .1) bytes (accepted (x .0) (x .1) bytes (x .2)),
 )
 
+-- ---- what Read left in the output
+-- an answer that tells so many bytes was an acceptance of that many
 pub told-kept : (reading : Reading) (count : ℕ) → written count ≡ toldOf reading → (bytes : List ℕ) × (reading ≡ kept bytes) × (count ≡ length bytes)
 told-kept (refused number at) count e =
     let z : _≡_ {A = ℕ} 0 1 = cc in

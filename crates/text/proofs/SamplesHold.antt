@@ -1,15 +1,15 @@
 -- The samples hold, by computation.
 -- Assumes nothing.
 use mathlib.Core.Path.{refl}
-use Rattle.digits.specs.Digits.{isDigit, digit, lineOf}
 use Rattle.frames.specs.Edition.{editionOk, mostNodes, mostSegments, extra, frameBytes, mostFeet, marksOk, crossesNothing}
 use Rattle.frames.specs.Frame.{total, checkOk, feet}
 use Rattle.frames.specs.Ranges.{headOk, endsOk, formOk, crossingOk, turnLaneOk, approachOk, streetOk}
-use Rattle.network.specs.Legs.{isIn, legsFree}
 use Rattle.frames.specs.Faults.{framed, headFault}
+use Rattle.network.specs.Legs.{isIn, legsFree}
 use Rattle.network.specs.Faults.{segmentFault}
-use Rattle.text.specs.Read.{segmentLines, readOf}
 use Rattle.network.specs.Network.{framesOk, isNetwork}
+use Rattle.digits.specs.Digits.{isDigit, digit, lineOf}
+use Rattle.text.specs.Read.{segmentLines, readOf}
 use Rattle.text.specs.Samples.{Samples}
 
 pub samples : Samples

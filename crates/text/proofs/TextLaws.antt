@@ -6,18 +6,18 @@ use mathlib.Core.Bool.{Bool, true, false, cond, _&&_, _||_}
 use mathlib.Core.Path.{_≡_, refl, sym, ap, _∙_}
 use mathlib.Core.List.{List, [], _∷_, _++_}
 use native.Mathlib.Omega.{arith}
-use borrow.Author.Tests.{eqb-true, ne-eqb, lt-ltb, le-ltb, le-leb, lt-leb, ltb-true, ltb-false}
 use lib.Dec.{eqb, leb, ltb}
 use lib.ListN.{length, getD, drop}
-use Rattle.lists.proofs.Facts.{and-true, true-and}
-use Rattle.frames.specs.Ranges.{within}
-use Rattle.digits.specs.Digits.{isDigit, line, digit, Line, broken, push, lineOf, bytesOf, restOf}
+use borrow.Author.Tests.{eqb-true, ne-eqb, lt-ltb, le-ltb, le-leb, lt-leb, ltb-true, ltb-false}
 use Rattle.lists.specs.Lists.{isEmpty}
-use Rattle.digits.specs.Steps.Scan.{spelled}
-use Rattle.text.specs.Text.{hexDigit, lineText, Bytes}
+use Rattle.lists.proofs.Facts.{and-true, true-and}
 use Rattle.lists.proofs.Lists.{true-is-false}
+use Rattle.frames.specs.Ranges.{within}
 use Rattle.frames.proofs.RangeLaws.{within-low, within-high}
+use Rattle.digits.specs.Digits.{isDigit, line, digit, Line, broken, push, lineOf, bytesOf, restOf}
+use Rattle.digits.specs.Steps.Scan.{spelled}
 use Rattle.digits.proofs.DigitLaws.{digit-small, line-end, line-pair}
+use Rattle.text.specs.Text.{hexDigit, lineText, Bytes}
 
 -- ---- bytes
 pub bytes-append : (a b : List ℕ) → Bytes a → Bytes b → Bytes (a ++ b)

@@ -6,10 +6,10 @@ use mathlib.Core.Bool.{false}
 use mathlib.Core.Path.{_≡_}
 use mathlib.Core.List.{List, [], _∷_, _++_}
 use Rattle.frames.specs.Frame.{edition, nodes, segments}
+use Rattle.frames.specs.Follows.{HeadFollows, SegmentFollows}
 use Rattle.network.specs.Legs.{cornerA, cornerB, isIn}
 use Rattle.network.specs.Network.{keptBytes}
 use Rattle.text.specs.Text.{lineText, Bytes}
-use Rattle.frames.specs.Follows.{HeadFollows, SegmentFollows}
 
 -- Of a list of frames: their number; each of them has a property; their bytes joined; their lines; the corners of their ends.
 abbrev pub count : List (List ℕ) → ℕ

@@ -4,15 +4,15 @@ use Prim.Native.Nat.{ℕ, zero, suc, _+_}
 use mathlib.Core.Bool.{true, false, cond}
 use mathlib.Core.List.{List, [], _++_}
 use lib.Dec.{leb}
-use Rattle.refusals.specs.Numbers.{numberOf}
-use Rattle.refusals.specs.declared.Refusal.the-variants.{WrongFrame, WrongCount, OutputTooShort}
-use Rattle.digits.specs.Digits.{lineOf, bytesOf, restOf}
-use Rattle.frames.specs.Frame.{edition, nodes, segments}
-use Rattle.network.specs.Legs.{taking}
-use Rattle.frames.specs.Faults.{headFault}
 use Rattle.lists.specs.Lists.{isEmpty}
-use Rattle.network.specs.Network.{keptBytes}
+use Rattle.refusals.specs.declared.Refusal.the-variants.{WrongFrame, WrongCount, OutputTooShort}
+use Rattle.refusals.specs.Numbers.{numberOf}
+use Rattle.frames.specs.Frame.{edition, nodes, segments}
+use Rattle.frames.specs.Faults.{headFault}
+use Rattle.network.specs.Legs.{taking}
 use Rattle.network.specs.Faults.{segmentFault}
+use Rattle.network.specs.Network.{keptBytes}
+use Rattle.digits.specs.Digits.{lineOf, bytesOf, restOf}
 
 -- A refusal has its number and its line, counted from 1; an acceptance keeps the frames' bytes joined.
 pub data Reading : Type 0 where

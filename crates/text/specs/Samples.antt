@@ -7,8 +7,8 @@ use Prim.Native.String.{String, [] as end, _∷_ as _then_}
 use mathlib.Core.Path.{_≡_}
 use mathlib.Core.Bool.{true, false}
 use mathlib.Core.List.{List, [], _∷_, _++_}
-use Rattle.text.specs.Read.{refused, kept, readOf}
 use Rattle.network.specs.Network.{isNetwork}
+use Rattle.text.specs.Read.{refused, kept, readOf}
 
 -- The bytes of characters; and a line of a text, ended by 0A.
 abbrev pub characters : String → List ℕ

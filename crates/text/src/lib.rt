@@ -1,4 +1,4 @@
-// Network texts of document 01: Read. The definitions are in specs/; every function is equated with one of them.
+// Network texts of document 01, and the call Read. The definitions are in specs/; every function is equated with one of them.
 pub mod read;
 
 use refusals::Refusal;

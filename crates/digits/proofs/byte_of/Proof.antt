@@ -1,7 +1,7 @@
 -- The arithmetic of `pair-byte`.
 -- Assumes nothing.
-use Rattle.digits.proofs.DecodeLaws.{pair-byte}
 use borrow.Author.Needs.{needs}
+use Rattle.digits.proofs.DecodeLaws.{pair-byte}
 use Rattle.digits.proofs.byte_of.Statement.{statement}
 use Rattle.digits.proofs.byte_of.Tie as tie
 

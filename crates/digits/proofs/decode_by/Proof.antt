@@ -1,8 +1,8 @@
 -- The values are those of the digits, each below 16, and joined by twos they are the bytes that the digits spell.
 -- Assumes nothing.
-use Rattle.digits.proofs.DecodeLaws.{values-small, values-join}
 use native.Mathlib.Omega.{arith}
 use borrow.Author.Needs.{needs}
+use Rattle.digits.proofs.DecodeLaws.{values-small, values-join}
 use Rattle.digits.proofs.decode_by.Statement.{statement}
 use Rattle.digits.proofs.decode_by.Tie as tie
 

@@ -1,8 +1,8 @@
 -- Fewer than 16 bytes are one part. Of more, the last 16 are put over the first 16, and the two parts together are all digits and all bytes.
 -- Assumes nothing.
-use Rattle.digits.proofs.DecodeLaws.{parts-join}
 use native.Mathlib.Omega.{arith}
 use borrow.Author.Needs.{needs}
+use Rattle.digits.proofs.DecodeLaws.{parts-join}
 use Rattle.digits.proofs.decode_into.Statement.{statement}
 use Rattle.digits.proofs.decode_into.Tie as tie
 

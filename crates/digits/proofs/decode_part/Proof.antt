@@ -1,7 +1,7 @@
 -- The values of at most 16 bytes have room, and the part that is lent has two for each byte.
 -- Assumes nothing.
-use lib.ListN.{length-take}
 use native.Mathlib.Omega.{arith}
+use lib.ListN.{length-take}
 use borrow.Author.Needs.{needs}
 use Rattle.digits.proofs.decode_part.Statement.{statement}
 use Rattle.digits.proofs.decode_part.Tie as tie

@@ -1,8 +1,8 @@
 -- The tests are those of the definition, in its order; each also bounds the byte, so that the difference is a digit's value.
 -- Assumes nothing.
-use Rattle.digits.specs.Digits.{digit}
-use Rattle.frames.proofs.RangeLaws.{within-low, within-high}
 use native.Mathlib.Omega.{arith}
+use Rattle.frames.proofs.RangeLaws.{within-low, within-high}
+use Rattle.digits.specs.Digits.{digit}
 use Rattle.digits.proofs.digit_of.Statement.{statement}
 use Rattle.digits.proofs.digit_of.Tie as tie
 

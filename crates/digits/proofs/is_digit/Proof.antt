@@ -1,7 +1,7 @@
 -- The code is the definition, unfolded.
 -- Assumes nothing.
-use Rattle.digits.specs.Digits.{isDigit}
 use borrow.Author.Needs.{needs}
+use Rattle.digits.specs.Digits.{isDigit}
 use Rattle.digits.proofs.is_digit.Statement.{statement}
 use Rattle.digits.proofs.is_digit.Tie as tie
 

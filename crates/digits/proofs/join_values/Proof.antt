@@ -2,10 +2,10 @@
 -- Assumes nothing.
 use Prim.Native.Nat.{_-_}
 use mathlib.Core.Path.{_∙_}
+use native.Mathlib.Omega.{arith}
 use lib.ListN.{length}
 use Rattle.digits.specs.Steps.Scan.{pairAt}
 use Rattle.digits.proofs.DecodeLaws.{Filling, filling-starts, filling-goes-on, filling-ends, pair-here}
-use native.Mathlib.Omega.{arith}
 use Rattle.digits.proofs.join_values.Statement.{statement}
 use Rattle.digits.proofs.join_values.Tie as tie
 

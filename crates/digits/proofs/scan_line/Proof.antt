@@ -5,13 +5,13 @@ use Prim.Native.Nat.{ℕ, _+_, _*_, _-_, _%_, _≤_, _<_}
 use mathlib.Core.Bool.{Bool, true, false, _&&_}
 use mathlib.Core.List.{List}
 use mathlib.Core.Path.{_≡_, refl, sym, ap, ap₂, _∙_, subst₂}
+use native.Mathlib.Omega.{arith}
 use lib.ListN.{length, drop, getD}
+use borrow.Author.Needs.{needs}
 use Rattle.digits.specs.declared.Scan.the-variants.{Broken, Whole}
 use Rattle.digits.specs.Digits.{broken, push, lineOf, digit, isDigit}
 use Rattle.digits.specs.Steps.Scan.{scanned}
 use Rattle.digits.proofs.DigitLaws.{end-at, odd-at, pair-at, bad-at, none-at, scanned-end, scanned-push}
-use native.Mathlib.Omega.{arith}
-use borrow.Author.Needs.{needs}
 use Rattle.digits.proofs.scan_line.Statement.{statement}
 use Rattle.digits.proofs.scan_line.Tie as tie
 

@@ -5,12 +5,12 @@ use mathlib.Core.Bool.{Bool, _&&_}
 use mathlib.Core.List.{List}
 use mathlib.Core.Path.{_≡_, ap, _∙_}
 use native.Mathlib.Nat.{sub-zero}
+use native.Mathlib.Omega.{arith}
 use lib.ListN.{length, drop, getD, set}
+use borrow.Author.Needs.{needs}
 use Rattle.digits.specs.Digits.{isDigit, digit}
 use Rattle.digits.specs.Steps.Scan.{areDigits, valueAt, Valued}
 use Rattle.digits.proofs.DecodeLaws.{Filling, filling-starts, filling-goes-on, filling-ends, digits-step, digits-end, value-here}
-use native.Mathlib.Omega.{arith}
-use borrow.Author.Needs.{needs}
 use Rattle.digits.proofs.values_of.Statement.{statement}
 use Rattle.digits.proofs.values_of.Tie as tie
 

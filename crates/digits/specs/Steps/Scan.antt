@@ -5,10 +5,10 @@ use mathlib.Core.Bool.{Bool, true, _&&_}
 use mathlib.Core.Path.{_≡_}
 use mathlib.Core.List.{List, [], _∷_}
 use lib.ListN.{length, getD, drop}
+use Rattle.frames.specs.Frame.{total}
 use Rattle.digits.specs.declared.Scan.{Scan}
 use Rattle.digits.specs.declared.Scan.the-variants.{Broken, Whole}
 use Rattle.digits.specs.Digits.{isDigit, line, digit, Line, broken}
-use Rattle.frames.specs.Frame.{total}
 
 -- The answer for a line that so many bytes with this sum stood before.
 unfoldable pub scanned : ℕ → ℕ → Line → Scan

@@ -1,20 +1,17 @@
--- What the steps of test 8 promise to each other.
+-- What the functions that judge segments' frames promise one another, in test 8 and in Read: they go by the corner index, where the definitions go by the
+-- legs taken.
 -- Assumes nothing.
-use Prim.Native.Nat.{ℕ, _+_, _*_}
+use Prim.Native.Nat.{ℕ, _+_, _*_, _≤_, _<_}
 use mathlib.Core.Bool.{Bool, true, cond, _&&_, not}
 use mathlib.Core.Path.{_≡_}
 use mathlib.Core.List.{List, []}
 use lib.Dec.{eqb}
-use Rattle.refusals.specs.declared.Refusal.the-variants.{WrongField, WrongCount, LegTaken}
-use Rattle.refusals.specs.Numbers.{unless}
-use Rattle.frames.specs.Edition.{frameBytes}
-use Rattle.frames.specs.Frame.{segments}
-use Rattle.frames.specs.Ranges.{endsOk, streetOk}
-use Rattle.frames.specs.Faults.{framed}
-use lib.ListN.{getD, set}
+use lib.ListN.{length, getD, set}
+use Rattle.frames.specs.declared.Head.{Head}
 use Rattle.network.specs.Legs.{cornerA, cornerB}
+use Rattle.network.specs.Faults.{lineFault}
 use Rattle.network.specs.Network.{framesOk, isNetwork}
-use Rattle.network.specs.Steps.Corners.{Indexed, cornersFrom, cornersOf}
+use Rattle.network.specs.Steps.Corners.{mostCorners, Indexed, cornersFrom, cornersOf}
 
 -- No leg of this frame is taken in the index, nor are its two legs one; and the index with both legs taken by segment s.
 unfoldable pub freeIn : List ℕ → List ℕ → Bool
@@ -23,25 +20,31 @@ freeIn index f = eqb (getD index (cornerA f) 0) 0 && eqb (getD index (cornerB f)
 abbrev pub claimed : List ℕ → ℕ → List ℕ → List ℕ
 claimed index s f = set (set index (cornerA f) (s * 2 + 1)) (cornerB f) (s * 2 + 2)
 
+-- The frame of a segment s whose two corners have their entries in the index.
+pub record Claimable (f : List ℕ) (s : ℕ) : Type 0 where
+  pub frame : 30 ≤ length f
+  pub counted : s < 1000
+  pub corner-a : cornerA f < mostCorners
+  pub corner-b : cornerB f < mostCorners
+
 -- Claiming the legs of segment s: whether they were free, and the index after it, which changes only then.
 pub record Claimed (f : List ℕ) (s : ℕ) (before after : List ℕ) (r : Bool) : Type 0 where
   pub answer : r ≡ freeIn before f
   pub index : after ≡ cond (freeIn before f) (claimed before s f) before
 
--- The number of a segment's line by the corner index, in place of the legs taken.
+-- The fault of a segment's line by the corner index, in place of the legs taken.
 abbrev pub indexFault : ℕ → ℕ → Bool → List ℕ → List ℕ → ℕ
-indexFault e n more index f =
-    framed 2 (frameBytes e) f (unless more WrongCount (unless (endsOk n f && streetOk e f) WrongField (unless (freeIn index f) LegTaken 0)))
+indexFault e n more index f = lineFault e n more (freeIn index f) f
 
--- The frame of segment s judged where it stands in kept bytes.
-pub record SegmentChecked (f : List ℕ) (e n s : ℕ) (before after : List ℕ) (r : Bool) : Type 0 where
-  pub answer : r ≡ eqb (indexFault e n true before f) 0
+-- The frame of segment s judged where it stands in kept bytes, after a head.
+pub record SegmentChecked (f : List ℕ) (head : Head) (s : ℕ) (before after : List ℕ) (r : Bool) : Type 0 where
+  pub answer : r ≡ eqb (indexFault (head .edition) (head .nodes) true before f) 0
   pub index : r ≡ true → after ≡ claimed before s f
 
--- The test of so many segment frames at the front of bytes: its answer, and where it passes, the index of their corners.
-pub record FramesChecked (e n segments : ℕ) (bytes after : List ℕ) (r : Bool) : Type 0 where
-  pub answer : r ≡ framesOk e n segments [] bytes
-  pub index : r ≡ true → Indexed (cornersFrom e segments [] bytes) after
+-- The test of the segment frames that a head counts, at the front of the bytes after it: its answer, and where it passes, the index of their corners.
+pub record FramesChecked (head : Head) (bytes after : List ℕ) (r : Bool) : Type 0 where
+  pub answer : r ≡ framesOk (head .edition) (head .nodes) (head .segments) [] bytes
+  pub index : r ≡ true → Indexed (cornersFrom (head .edition) (head .segments) [] bytes) after
 
 -- The test of kept bytes: its answer, and where it passes, the index of the network's corners.
 pub record Checked (net after : List ℕ) (r : Bool) : Type 0 where

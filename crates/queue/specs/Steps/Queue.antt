@@ -1,8 +1,8 @@
 -- A winner tree (tournament tree): a queue that holds at most one key for each of the entries 0 .. n - 1, and finds the least.
 -- Assumes nothing.
+use Prim.Native.Nat.{ℕ, _+_, _*_, _-_, _≤_, _<_, max}
 use mathlib.Core.Path.{_≡_}
 use mathlib.Core.List.{List}
-use Prim.Native.Nat.{ℕ, _+_, _*_, _-_, _≤_, _<_, max}
 use lib.ListN.{length}
 use Rattle.lists.specs.Lists.{at}
 
@@ -10,7 +10,7 @@ use Rattle.lists.specs.Lists.{at}
 abbrev pub top : ℕ
 top = 281474976645120
 
--- The key of an entry, which its leaf tells.
+-- An element of the tree, a node or a leaf, tells how far a key lies below `top`, 0 for no key. The key of an entry is the one that its leaf tells.
 abbrev pub keyOf : List ℕ → ℕ → ℕ → ℕ
 keyOf tree n entry = top - at tree (n + entry)
 

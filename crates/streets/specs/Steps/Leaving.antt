@@ -1,8 +1,8 @@
 -- Which run leaves a node by which leg, as the corner index tells it.
 -- Assumes nothing.
+use Prim.Native.Nat.{ℕ, _+_, _<_}
 use mathlib.Core.Path.{_≡_}
 use mathlib.Core.List.{List}
-use Prim.Native.Nat.{ℕ, _+_, _<_}
 use Rattle.streets.specs.Runs.{runsOf, start, leavingLeg}
 
 -- Run r leaves the node by the leg.

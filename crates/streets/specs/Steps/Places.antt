@@ -12,8 +12,8 @@ use Rattle.frames.specs.Frame.{headBytes}
 use Rattle.network.specs.Network.{editionOf, nodesOf}
 use Rattle.streets.specs.declared.movements.Approach.{Approach}
 use Rattle.streets.specs.declared.movements.Arrival.{Arrival}
-use Rattle.streets.specs.Runs.{finish, arrivalLeg}
 use Rattle.streets.specs.Exits.{rightHandExit}
+use Rattle.streets.specs.Runs.{finish, arrivalLeg}
 use Rattle.streets.specs.Bicycle.{arrivalTurnLevel, arrivalCrossingLevel}
 
 -- Where the frame of segment s begins.

@@ -4,17 +4,19 @@ use Prim.Native.Nat.{ℕ, _+_, _*_}
 use mathlib.Core.Bool.{Bool, true, cond}
 use mathlib.Core.Path.{_≡_}
 use mathlib.Core.List.{List, []}
-use lib.Dec.{eqb}
+use lib.Dec.{eqb, ltb}
 use lib.ListN.{length, drop}
 use Rattle.refusals.specs.declared.Refusal.{Refusal}
 use Rattle.refusals.specs.Numbers.{numberOf}
-use Rattle.text.specs.declared.read.LineRead.{LineRead}
-use Rattle.text.specs.declared.read.LineRead.the-variants.{Frame, Faulty}
-use Rattle.digits.specs.Digits.{lineOf, bytesOf}
+use Rattle.frames.specs.declared.Head.{Head}
+use Rattle.frames.specs.Edition.{frameBytes}
 use Rattle.frames.specs.Frame.{edition, nodes, segments}
-use Rattle.text.specs.Read.{Reading, segmentLines}
 use Rattle.frames.specs.Faults.{framed}
 use Rattle.network.specs.Steps.Checks.{claimed, indexFault}
+use Rattle.digits.specs.Digits.{lineOf, bytesOf}
+use Rattle.text.specs.declared.read.LineRead.{LineRead}
+use Rattle.text.specs.declared.read.LineRead.the-variants.{Frame, Faulty}
+use Rattle.text.specs.Read.{Reading, segmentLines}
 
 -- The bytes of the line at a place of a text.
 abbrev pub bytesAt : List ℕ → ℕ → List ℕ
@@ -43,7 +45,15 @@ pub record FrameRead (text : List ℕ) (at kind : ℕ) (before after : List ℕ)
 abbrev pub linesAfter : List ℕ → List ℕ → Reading
 linesAfter h text = segmentLines (edition h) (nodes h) (segments h) 2 [] h text
 
+-- The fault of the line of segment s, after this head, by the corner index.
+abbrev pub faultAfter : Head → ℕ → List ℕ → List ℕ → ℕ
+faultAfter head s index f = indexFault (head .edition) (head .nodes) (ltb s (head .segments)) index f
+
 -- The frame of segment s judged, read from a line with this place after it; its legs are claimed where it has no fault.
-pub record SegmentJudged (f : List ℕ) (next e n : ℕ) (more : Bool) (s : ℕ) (before after : List ℕ) (r : LineRead) : Type 0 where
-  pub answer : Tells (indexFault e n more before f) next r
-  pub index : after ≡ cond (eqb (indexFault e n more before f) 0) (claimed before s f) before
+pub record SegmentJudged (f : List ℕ) (next : ℕ) (head : Head) (s : ℕ) (before after : List ℕ) (r : LineRead) : Type 0 where
+  pub answer : Tells (faultAfter head s before f) next r
+  pub index : after ≡ cond (eqb (faultAfter head s before f) 0) (claimed before s f) before
+
+-- The same of the line at a place of a text.
+abbrev pub LineJudged : List ℕ → ℕ → Head → ℕ → List ℕ → List ℕ → LineRead → Type 0
+LineJudged text at head s before after r = SegmentJudged (bytesAt text at) (at + 2 * frameBytes (head .edition) + 1) head s before after r

@@ -1,8 +1,9 @@
--- The bytes that the lines of a text spell.
+-- What the second pass of Read writes: the bytes that the digits of a good text's lines spell, one line after the other.
 -- Assumes nothing.
 use Prim.Native.Nat.{ℕ, zero, suc, _+_, _*_}
 use mathlib.Core.List.{List, [], _++_}
 use lib.ListN.{drop}
+use Rattle.frames.specs.Frame.{headBytes}
 use Rattle.digits.specs.Steps.Scan.{spelled}
 
 -- The bytes of so many lines, each of `size` bytes and its 0A, joined.
@@ -12,4 +13,4 @@ spelledLines size (suc lines) text = spelled size text ++ spelledLines size line
 
 -- The bytes of a head's line and of so many lines after it.
 abbrev pub spelledText : ℕ → ℕ → List ℕ → List ℕ
-spelledText size lines text = spelled 7 text ++ spelledLines size lines (drop 15 text)
+spelledText size lines text = spelled headBytes text ++ spelledLines size lines (drop (2 * headBytes + 1) text)

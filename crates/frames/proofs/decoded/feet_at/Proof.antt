@@ -2,10 +2,10 @@
 -- Assumes nothing.
 use Prim.Native.Nat.{_+_, _-_}
 use mathlib.Core.Path.{_≡_}
-use lib.ListN.{length-take, length-drop}
-use Rattle.frames.specs.Edition.{frameBytes}
 use native.Mathlib.Omega.{arith}
+use lib.ListN.{length-take, length-drop}
 use borrow.Author.Needs.{needs}
+use Rattle.frames.specs.Edition.{frameBytes}
 use Rattle.frames.proofs.decoded.feet_at.Statement.{statement}
 use Rattle.frames.proofs.decoded.feet_at.Tie as tie
 

@@ -1,7 +1,7 @@
 -- The code is the definition, unfolded.
 -- Assumes nothing.
-use Rattle.frames.specs.Edition.{crossesNothing}
 use borrow.Author.Needs.{needs}
+use Rattle.frames.specs.Edition.{crossesNothing}
 use Rattle.frames.proofs.edition.crosses_nothing.Statement.{statement}
 use Rattle.frames.proofs.edition.crosses_nothing.Tie as tie
 

@@ -1,7 +1,7 @@
 -- The code is the definition, unfolded.
 -- Assumes nothing.
-use Rattle.frames.specs.Edition.{editionOk}
 use borrow.Author.Needs.{needs}
+use Rattle.frames.specs.Edition.{editionOk}
 use Rattle.frames.proofs.edition.edition_ok.Statement.{statement}
 use Rattle.frames.proofs.edition.edition_ok.Tie as tie
 

@@ -1,8 +1,8 @@
 -- The code is the definition, unfolded; the sizes are laws of every edition.
 -- Assumes nothing.
 use mathlib.Core.Path.{refl}
-use Rattle.frames.specs.Edition.{extra, frameBytes}
 use native.Mathlib.Omega.{arith}
+use Rattle.frames.specs.Edition.{extra, frameBytes}
 use Rattle.frames.proofs.edition.extra_of.Statement.{statement}
 use Rattle.frames.proofs.edition.extra_of.Tie as tie
 

@@ -1,7 +1,7 @@
 -- The code is the definition, unfolded.
 -- Assumes nothing.
-use Rattle.frames.specs.Edition.{marksOk}
 use borrow.Author.Needs.{needs}
+use Rattle.frames.specs.Edition.{marksOk}
 use Rattle.frames.proofs.edition.marks_ok.Statement.{statement}
 use Rattle.frames.proofs.edition.marks_ok.Tie as tie
 

@@ -1,7 +1,7 @@
 -- The code is the definition, unfolded.
 -- Assumes nothing.
-use Rattle.frames.specs.Edition.{mostFeet}
 use borrow.Author.Needs.{needs}
+use Rattle.frames.specs.Edition.{mostFeet}
 use Rattle.frames.proofs.edition.most_feet.Statement.{statement}
 use Rattle.frames.proofs.edition.most_feet.Tie as tie
 

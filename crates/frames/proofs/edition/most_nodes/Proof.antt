@@ -1,7 +1,7 @@
 -- The code is the definition, unfolded.
 -- Assumes nothing.
-use Rattle.frames.specs.Edition.{mostNodes}
 use borrow.Author.Needs.{needs}
+use Rattle.frames.specs.Edition.{mostNodes}
 use Rattle.frames.proofs.edition.most_nodes.Statement.{statement}
 use Rattle.frames.proofs.edition.most_nodes.Tie as tie
 

@@ -1,7 +1,7 @@
 -- The code is the definition, unfolded.
 -- Assumes nothing.
-use Rattle.frames.specs.Edition.{mostSegments}
 use borrow.Author.Needs.{needs}
+use Rattle.frames.specs.Edition.{mostSegments}
 use Rattle.frames.proofs.edition.most_segments.Statement.{statement}
 use Rattle.frames.proofs.edition.most_segments.Tie as tie
 

@@ -1,7 +1,7 @@
 -- The code is the definition, unfolded.
 -- Assumes nothing.
-use Rattle.frames.specs.Frame.{feet}
 use borrow.Author.Needs.{needs}
+use Rattle.frames.specs.Frame.{feet}
 use Rattle.frames.proofs.frame.feet_of.Statement.{statement}
 use Rattle.frames.proofs.frame.feet_of.Tie as tie
 

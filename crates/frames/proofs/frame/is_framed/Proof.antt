@@ -1,7 +1,7 @@
 -- The sum is that of the check; with the bytes' own length, check and kind are all that `framed` tests.
 -- Assumes nothing.
-use Rattle.frames.proofs.FrameLaws.{check-and-kind}
 use borrow.Author.Needs.{needs}
+use Rattle.frames.proofs.FrameLaws.{check-and-kind}
 use Rattle.frames.proofs.frame.is_framed.Statement.{statement}
 use Rattle.frames.proofs.frame.is_framed.Tie as tie
 

@@ -2,10 +2,10 @@
 -- Assumes nothing.
 use Prim.Native.Nat.{_+_, _-_, _%_, _≤_, _<_}
 use mathlib.Core.Path.{_≡_}
+use native.Mathlib.Omega.{arith}
 use lib.ListN.{length, drop}
 use Rattle.frames.specs.Frame.{total}
 use Rattle.frames.proofs.FrameLaws.{total-step, total-none}
-use native.Mathlib.Omega.{arith}
 use Rattle.frames.proofs.frame.sum_of.Statement.{statement}
 use Rattle.frames.proofs.frame.sum_of.Tie as tie
 

@@ -2,11 +2,11 @@
 -- Assumes nothing.
 use mathlib.Core.Bool.{or-false, true, false}
 use mathlib.Core.Path.{_≡_, sym, _∙_}
-use Rattle.frames.specs.Ranges.{within, crossingOk}
+use borrow.Author.Needs.{needs}
 use Rattle.frames.specs.Edition.{crossesNothing}
 use Rattle.frames.specs.Frame.{control}
+use Rattle.frames.specs.Ranges.{within, crossingOk}
 use Rattle.frames.proofs.EditionLaws.{crosses-or-not}
-use borrow.Author.Needs.{needs}
 use Rattle.frames.proofs.ranges.crossing_ok.Statement.{statement}
 use Rattle.frames.proofs.ranges.crossing_ok.Tie as tie
 

@@ -1,7 +1,7 @@
 -- The tests are those of the definition, with the called functions' values put in.
 -- Assumes nothing.
-use Rattle.frames.specs.Ranges.{endsOk}
 use borrow.Author.Needs.{needs}
+use Rattle.frames.specs.Ranges.{endsOk}
 use Rattle.frames.proofs.ranges.ends_ok.Statement.{statement}
 use Rattle.frames.proofs.ranges.ends_ok.Tie as tie
 

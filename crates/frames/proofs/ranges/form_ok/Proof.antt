@@ -3,12 +3,12 @@
 -- Assumes nothing.
 use mathlib.Core.Bool.{Bool, true, false, _&&_, _||_, or-false}
 use mathlib.Core.Path.{_≡_, refl, sym}
-use borrow.Author.Tests.{ne-eqb}
 use lib.Dec.{leb, eqb}
-use Rattle.frames.specs.Ranges.{within, formOk}
+use borrow.Author.Tests.{ne-eqb}
+use borrow.Author.Needs.{needs}
 use Rattle.frames.specs.Edition.{marksOk}
 use Rattle.frames.specs.Frame.{form, lanes, speed, reach, marks}
-use borrow.Author.Needs.{needs}
+use Rattle.frames.specs.Ranges.{within, formOk}
 use Rattle.frames.proofs.ranges.form_ok.Statement.{statement}
 use Rattle.frames.proofs.ranges.form_ok.Tie as tie
 

@@ -1,7 +1,7 @@
 -- The tests are those of the definition, with the called functions' values put in.
 -- Assumes nothing.
-use Rattle.frames.specs.Ranges.{headOk}
 use borrow.Author.Needs.{needs}
+use Rattle.frames.specs.Ranges.{headOk}
 use Rattle.frames.proofs.ranges.head_ok.Statement.{statement}
 use Rattle.frames.proofs.ranges.head_ok.Tie as tie
 

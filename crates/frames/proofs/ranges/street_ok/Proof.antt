@@ -3,14 +3,14 @@
 -- Assumes nothing.
 use Prim.Native.Nat.{ℕ, _+_}
 use mathlib.Core.Bool.{Bool, true, false, _&&_, and-false}
-use mathlib.Core.Path.{_≡_, refl, sym, ap, _∙_}
+use mathlib.Core.Path.{_≡_, refl, ap, _∙_}
 use mathlib.Core.List.{List}
 use lib.ListN.{getD}
-use Rattle.frames.specs.Ranges.{within, formOk, approachOk, streetOk}
+use borrow.Author.Needs.{needs}
+use Rattle.lists.proofs.Facts.{and-true, guard-stops, guard-passes}
 use Rattle.frames.specs.Edition.{extra, mostFeet}
 use Rattle.frames.specs.Frame.{feet, ways, approachB, approachA}
-use Rattle.lists.proofs.Facts.{and-true}
-use borrow.Author.Needs.{needs}
+use Rattle.frames.specs.Ranges.{within, formOk, approachOk, streetOk}
 use Rattle.frames.proofs.ranges.street_ok.Statement.{statement}
 use Rattle.frames.proofs.ranges.street_ok.Tie as tie
 
@@ -34,17 +34,17 @@ module _ (a b x y z : Bool) where
   fourth-fails r = rw (r, and-false ((a && b) && x))
 
 module _ (e : ℕ) (f : List ℕ) where
-  limits : {x n m : ℕ} {r : Bool} → x ≡ extra e → n ≡ feet e f → m ≡ mostFeet e
-      → (within 1 m n && within 1 3 (getD f (x + 10) 0)) ≡ r → (within 1 (mostFeet e) (feet e f) && within 1 3 (ways e f)) ≡ r
-  limits p q o h = rw (p, q, o) at h
+  limits : {x n m : ℕ} → x ≡ extra e → n ≡ feet e f → m ≡ mostFeet e
+      → (within 1 m n && within 1 3 (getD f (x + 10) 0)) ≡ (within 1 (mostFeet e) (feet e f) && within 1 3 (ways e f))
+  limits p q o = rw (p, q, o)
 
-  approach : (i : ℕ) {x : ℕ} {r s : Bool} → x ≡ extra e → s ≡ approachOk e f (x + i) → s ≡ r → approachOk e f (extra e + i) ≡ r
-  approach i p h g = ap (λ (k : ℕ). approachOk e f (k + i)) (sym p) ∙ sym h ∙ g
+  approach : (i : ℕ) {x : ℕ} {s : Bool} → x ≡ extra e → s ≡ approachOk e f (x + i) → s ≡ approachOk e f (extra e + i)
+  approach i p h = h ∙ ap (λ (k : ℕ). approachOk e f (k + i)) p
 
   passes : {r : Bool} → (within 1 (mostFeet e) (feet e f) && within 1 3 (ways e f)) ≡ true → formOk e f ≡ true → approachOk e f (approachB e) ≡ true
-      → approachOk e f (approachA e) ≡ r → r ≡ streetOk e f
+      → r ≡ approachOk e f (approachA e) → r ≡ streetOk e f
   unfolding streetOk
-  passes p q o h = sym h ∙ all-pass (within 1 (mostFeet e) (feet e f)) (formOk e f) (within 1 3 (ways e f)) (approachOk e f (approachB e)) (approachOk e f (approachA e)) p q o
+  passes p q o h = h ∙ all-pass (within 1 (mostFeet e) (feet e f)) (formOk e f) (within 1 3 (ways e f)) (approachOk e f (approachB e)) (approachOk e f (approachA e)) p q o
 
   no-limits : (within 1 (mostFeet e) (feet e f) && within 1 3 (ways e f)) ≡ false → false ≡ streetOk e f
   unfolding streetOk
@@ -73,8 +73,19 @@ shared-slice-read-ways c = search needs
 most-feet-requires : tie.Need-most-feet-requires
 most-feet-requires c κs = search needs
 
+limits-here : (c : tie.After-most-feet) → let a = c .before .before .before .before .before .args in
+    (within 1 (c .most-feet .result) (c .before .before .feet-of .result) && within 1 3 (getD (a .f .now) (c .before .before .before .extra-of .result + 10) 0))
+    ≡ (within 1 (mostFeet (a .e)) (feet (a .e) (a .f .now)) && within 1 3 (ways (a .e) (a .f .now)))
+limits-here c = limits _ _ (c .before .before .before .extra-of .ensures .is) (c .before .before .feet-of .ensures .0) (c .most-feet .ensures)
+
+returns : tie.Need-returns
+returns c = no-limits _ _ (guard-stops (limits-here (c .before)) (c .if1 .taken))
+
 form-ok-requires : tie.Need-form-ok-requires
 form-ok-requires c κs = search needs
+
+returns-2 : tie.Need-returns-2
+returns-2 c = no-form _ _ (guard-stops (c .before .form-ok .ensures) (c .if2 .taken))
 
 add-approach-ok : tie.Need-add-approach-ok
 add-approach-ok c = search needs
@@ -82,40 +93,26 @@ add-approach-ok c = search needs
 approach-ok-requires : tie.Need-approach-ok-requires
 approach-ok-requires c κs = search needs
 
+returns-3 : tie.Need-returns-3
+returns-3 c =
+    let x = c .before .before .before .before .before .before .before .before .extra-of .ensures .is in
+    no-approach _ _ (guard-stops (approach _ _ 15 x (c .before .approach-ok .ensures)) (c .if3 .taken))
+
 add-approach-ok-2 : tie.Need-add-approach-ok-2
 add-approach-ok-2 c = search needs
 
 approach-ok-requires-2 : tie.Need-approach-ok-requires-2
 approach-ok-requires-2 c κs = search needs
 
-returns : tie.Need-returns
-returns c =
-    let after-if2 = c .before .before .before in
-    let after-form-ok = after-if2 .before in
-    let after-if1 = after-form-ok .before in
-    let after-most-feet = after-if1 .before in
-    let after-feet-of = after-most-feet .before .before in
-    let after-extra-of = after-feet-of .before in
-    let x = after-extra-of .extra-of .ensures .is in
-    passes _ _
-    (limits _ _ (after-extra-of .extra-of .ensures .is) (after-feet-of .feet-of .ensures .0) (after-most-feet .most-feet .ensures) (after-if1 .if1 .taken))
-    (sym (after-form-ok .form-ok .ensures) ∙ after-if2 .if2 .taken)
-    (approach _ _ 15 x (c .before .before .approach-ok .ensures) (c .before .if3 .taken)) (approach _ _ 22 x (c .approach-ok2 .ensures) refl)
-
-returns-2 : tie.Need-returns-2
-returns-2 c =
-    let after-extra-of = c .before .before .before .before .before .before .before .before in
-    no-approach _ _ (approach _ _ 15 (after-extra-of .extra-of .ensures .is) (c .before .approach-ok .ensures) (c .if3 .left))
-
-returns-3 : tie.Need-returns-3
-returns-3 c = no-form _ _ (sym (c .before .form-ok .ensures) ∙ c .if2 .left)
-
 returns-4 : tie.Need-returns-4
 returns-4 c =
-    let after-feet-of = c .before .before .before in
-    let after-extra-of = after-feet-of .before in
-    no-limits _ _
-    (limits _ _ (after-extra-of .extra-of .ensures .is) (after-feet-of .feet-of .ensures .0) (c .before .most-feet .ensures) (c .if1 .left))
+    let after-form-ok = c .before .before .before .before in
+    let after-most-feet = after-form-ok .before .before in
+    let x = after-most-feet .before .before .before .extra-of .ensures .is in
+    passes _ _ (guard-passes (limits-here after-most-feet) (after-form-ok .before .if1 .left))
+    (guard-passes (after-form-ok .form-ok .ensures) (c .before .before .before .if2 .left))
+    (guard-passes (approach _ _ 15 x (c .before .before .approach-ok .ensures)) (c .before .if3 .left))
+    (approach _ _ 22 x (c .approach-ok2 .ensures))
 
 pub street-ok-spec : {M : Type 1} → statement M
 street-ok-spec =
@@ -126,12 +123,12 @@ street-ok-spec =
     add-ways
     shared-slice-read-ways
     most-feet-requires
+    returns
     form-ok-requires
+    returns-2
     add-approach-ok
     approach-ok-requires
+    returns-3
     add-approach-ok-2
     approach-ok-requires-2
-    returns
-    returns-2
-    returns-3
     returns-4)

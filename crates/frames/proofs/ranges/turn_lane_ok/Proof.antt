@@ -3,11 +3,11 @@
 use Prim.Native.Nat.{_+_, _≤_}
 use mathlib.Core.Bool.{or-false}
 use mathlib.Core.Path.{sym}
-use borrow.Author.Tests.{ne-eqb, le-leb}
-use lib.ListN.{getD}
-use Rattle.frames.specs.Ranges.{turnLaneOk}
 use native.Mathlib.Omega.{arith}
+use lib.ListN.{getD}
+use borrow.Author.Tests.{ne-eqb, le-leb}
 use borrow.Author.Needs.{needs}
+use Rattle.frames.specs.Ranges.{turnLaneOk}
 use Rattle.frames.proofs.ranges.turn_lane_ok.Statement.{statement}
 use Rattle.frames.proofs.ranges.turn_lane_ok.Tie as tie
 

@@ -6,9 +6,9 @@ use mathlib.Core.List.{List}
 use mathlib.Core.Path.{_≡_, sym, subst₂}
 use lib.Dec.{eqb}
 use lib.ListN.{getD, set}
+use borrow.Author.Needs.{needs}
 use Rattle.network.specs.Legs.{cornerA, cornerB}
 use Rattle.network.specs.Steps.Checks.{Claimed, freeIn}
-use borrow.Author.Needs.{needs}
 use Rattle.network.proofs.corners.claim_legs.Statement.{statement}
 use Rattle.network.proofs.corners.claim_legs.Tie as tie
 

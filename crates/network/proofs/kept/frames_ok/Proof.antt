@@ -1,24 +1,26 @@
 -- The loop's invariant is `Going` of FramesChecked.antt; the part that each turn lends is the frame of segment s.
 -- Assumes nothing.
 use Prim.Native.Nat.{_+_, _-_}
-use lib.ListN.{length-take, length-drop}
-use Rattle.network.proofs.FramesChecked.{Going, starts, goes-on, ends, part-fits, fails}
+use mathlib.Core.Path.{refl}
 use native.Mathlib.Omega.{arith}
+use lib.ListN.{length-take, length-drop}
 use borrow.Author.Needs.{needs}
+use Rattle.lists.proofs.Facts.{guard-stops, guard-passes}
+use Rattle.network.proofs.FramesChecked.{Going, starts, goes-on, ends, part-fits, fails}
 use Rattle.network.proofs.kept.frames_ok.Statement.{statement}
 use Rattle.network.proofs.kept.frames_ok.Tie as tie
 
 abbrev Inv-loop : tie.InvT-loop
-Inv-loop net e n segments index₀ size s₀ at₀ index s at = Going net e n segments s at index
+Inv-loop net head index₀ size segments s₀ at₀ index s at = Going net head s at index
 
 abbrev μ-loop : tie.MeasureT-loop
-μ-loop net e n segments index₀ size s₀ at₀ index s at = segments - s
+μ-loop net head index₀ size segments s₀ at₀ index s at = head .segments - s
 
 frame-bytes-requires : tie.Need-frame-bytes-requires Inv-loop μ-loop
 frame-bytes-requires c κs = search needs
 
 loop-holds : tie.Need-loop-holds Inv-loop μ-loop
-loop-holds c = starts (c .before .before .pre .1) (c .before .before .pre .2) (c .before .before .pre .0) (c .before .before .pre .3)
+loop-holds c = starts (c .before .before .pre .1) (c .before .before .pre .0) (c .before .before .pre .2)
 
 add-segment-ok : tie.Need-add-segment-ok Inv-loop μ-loop
 add-segment-ok c = omega (arith, part-fits (c .before .loop .inv) (c .loop-test .taken), c .before .before .frame-bytes .ensures .is)
@@ -33,47 +35,39 @@ part-segment-ok-end : tie.Need-part-segment-ok-end Inv-loop μ-loop
 part-segment-ok-end c = omega (arith, part-fits (c .before .loop .inv) (c .loop-test .taken), c .before .before .frame-bytes .ensures .is)
 
 segment-ok-requires : tie.Need-segment-ok-requires Inv-loop μ-loop
-segment-ok-requires c κs = (
-  simp (length-take, length-drop)
-      (omega (
-        arith,
-        part-fits (c .before .before .before .loop .inv) (c .before .before .loop-test .taken),
-        c .before .before .before .before .frame-bytes .ensures .is,
-      )),
-  omega arith,
-  omega arith,
-)
+segment-ok-requires c κs =
+    let inv = c .before .before .before .loop .inv in
+    let below = c .before .before .loop-test .taken in (
+      simp (length-take, length-drop) (omega (arith, part-fits inv below, c .before .before .before .before .frame-bytes .ensures .is)),
+      inv .limited,
+      below,
+    )
+
+returns : tie.Need-returns Inv-loop μ-loop
+returns c =
+    let after-loop = c .before .before .before .before .before in
+    let size = after-loop .before .frame-bytes in
+    fails (after-loop .loop .inv) (after-loop .loop .at + size .result - after-loop .loop .at) (c .before .before .before .before .loop-test .taken)
+    (omega (arith, size .ensures .is)) (c .before .segment-ok .ensures) (guard-stops refl (c .if1 .taken))
 
 add-s : tie.Need-add-s Inv-loop μ-loop
-add-s c = omega arith
+add-s c = omega (arith, c .before .before .before .before .before .loop .inv .limited .few-segments)
 
 add-at : tie.Need-add-at Inv-loop μ-loop
 add-at c =
-    omega (
-      arith,
-      part-fits (c .before .before .before .before .before .loop .inv) (c .before .before .before .before .loop-test .taken),
-      c .before .before .before .before .before .before .frame-bytes .ensures .is,
-    )
+    let after-loop = c .before .before .before .before .before in
+    omega (arith, part-fits (after-loop .loop .inv) (c .before .before .before .before .loop-test .taken), after-loop .before .frame-bytes .ensures .is)
 
 loop-less : tie.Need-loop-less Inv-loop μ-loop
 loop-less c = omega arith
 
 loop-again : tie.Need-loop-again Inv-loop μ-loop
 loop-again c =
-    let size = c .before .before .before .before .before .before .frame-bytes in
+    let after-loop = c .before .before .before .before .before in
+    let size = after-loop .before .frame-bytes in
     rw (size .ensures .is)
-    (goes-on (c .before .before .before .before .before .loop .inv)
-    (c .before .before .before .before .before .loop .at + size .result - c .before .before .before .before .before .loop .at)
-    (c .before .before .before .before .loop-test .taken)
-    (omega (arith, size .ensures .is)) (c .before .segment-ok .ensures) (c .if1 .taken))
-
-returns : tie.Need-returns Inv-loop μ-loop
-returns c =
-    let size = c .before .before .before .before .before .before .frame-bytes in
-    fails (c .before .before .before .before .before .loop .inv)
-    (c .before .before .before .before .before .loop .at + size .result - c .before .before .before .before .before .loop .at)
-    (c .before .before .before .before .loop-test .taken)
-    (omega (arith, size .ensures .is)) (c .before .segment-ok .ensures) (c .if1 .left)
+    (goes-on (after-loop .loop .inv) (after-loop .loop .at + size .result - after-loop .loop .at) (c .before .before .before .before .loop-test .taken)
+    (omega (arith, size .ensures .is)) (c .before .segment-ok .ensures) (guard-passes refl (c .if1 .left)))
 
 returns-2 : tie.Need-returns-2 Inv-loop μ-loop
 returns-2 c = ends (c .before .loop .inv) (c .loop-test .left)
@@ -91,9 +85,9 @@ frames-ok-spec =
     part-segment-ok-start
     part-segment-ok-end
     segment-ok-requires
+    returns
     add-s
     add-at
     loop-less
     loop-again
-    returns
     returns-2)

@@ -4,12 +4,12 @@ use Prim.Native.Nat.{ℕ}
 use mathlib.Core.List.{List}
 use mathlib.Core.Path.{_≡_, sym, ap, _∙_}
 use lib.ListN.{length, drop}
-use Rattle.refusals.specs.declared.Refusal.the-variants.{NotDigits, WrongCheck, WrongFrame}
-use Rattle.digits.specs.Digits.{lineOf}
-use Rattle.text.specs.Steps.Lines.{bytesAt, LineFault}
-use Rattle.digits.proofs.DigitLaws.{Scanned, scan-tells, scan-breaks}
-use Rattle.frames.proofs.FrameLaws.{empty-fault, check-fault, size-fault}
 use borrow.Author.Needs.{needs}
+use Rattle.refusals.specs.declared.Refusal.the-variants.{NotDigits, WrongCheck, WrongFrame}
+use Rattle.frames.proofs.FrameLaws.{empty-fault, check-fault, size-fault}
+use Rattle.digits.specs.Digits.{lineOf}
+use Rattle.digits.proofs.DigitLaws.{Scanned, scan-tells, scan-breaks}
+use Rattle.text.specs.Steps.Lines.{bytesAt, LineFault}
 use Rattle.text.proofs.read.fault_of.Statement.{statement}
 use Rattle.text.proofs.read.fault_of.Tie as tie
 

@@ -3,20 +3,21 @@
 use Prim.Native.Nat.{ℕ, _+_, _*_, _%_, _<_}
 use mathlib.Core.Bool.{Bool, true, false}
 use mathlib.Core.List.{List}
-use mathlib.Core.Path.{_≡_, sym, ap, _∙_}
-use borrow.Author.Tests.{eqb-true, eqb-false}
+use mathlib.Core.Path.{_≡_, refl, sym, ap, _∙_}
+use native.Mathlib.Omega.{arith}
 use lib.ListN.{length, getD}
+use borrow.Author.Tests.{eqb-true, eqb-false}
+use borrow.Author.Needs.{needs}
+use Rattle.lists.proofs.Facts.{guard-stops, guard-passes}
 use Rattle.refusals.specs.declared.Refusal.{Refusal}
+use Rattle.refusals.specs.declared.Refusal.the-variants.{WrongCheck, WrongFrame}
 use Rattle.refusals.specs.Numbers.{numberOf}
 use Rattle.refusals.proofs.Positive.{positive}
-use Rattle.refusals.specs.declared.Refusal.the-variants.{WrongCheck, WrongFrame}
-use Rattle.text.specs.declared.read.LineRead.the-variants.{Frame, Faulty}
 use Rattle.frames.specs.Frame.{total}
 use Rattle.frames.specs.Faults.{framed}
-use Rattle.text.specs.Steps.Lines.{bytesAt, LineDecoded, LineFault, FrameRead}
 use Rattle.frames.proofs.FrameLaws.{check-fault, kind-fault, no-fault}
-use native.Mathlib.Omega.{arith}
-use borrow.Author.Needs.{needs}
+use Rattle.text.specs.declared.read.LineRead.the-variants.{Frame, Faulty}
+use Rattle.text.specs.Steps.Lines.{bytesAt, LineDecoded, LineFault, FrameRead}
 use Rattle.text.proofs.read.frame_line.Statement.{statement}
 use Rattle.text.proofs.read.frame_line.Tie as tie
 
@@ -55,42 +56,29 @@ module _ {t : List ℕ} {at : ℕ} {d e : List ℕ} {r : Bool} (w : LineDecoded 
 whole-line-requires : tie.Need-whole-line-requires
 whole-line-requires c κs = search needs
 
-sum-of-requires : tie.Need-sum-of-requires
-sum-of-requires c κs = search needs
+fault-of-requires : tie.Need-fault-of-requires
+fault-of-requires c κs = search needs
 
 same-length : tie.Need-same-length
 same-length c = search needs
 
 returns : tie.Need-returns
-returns c =
-    let after-if1 = c .before .before .before in
-    let after-whole-line = after-if1 .before .before .before in
-    let start = after-whole-line .before .before .before .before in
-    wrong-check (after-whole-line .whole-line .ensures) (after-if1 .if1 .taken) (start .pre .1) (λ y. c .if2 .taken (c .before .sum-of .ensures ∙ y))
+returns c = other-line (c .before .before .before .before .whole-line .ensures) (guard-stops refl (c .before .if1 .taken)) (c .fault-of .ensures)
 
-slice-read-if3 : tie.Need-slice-read-if3
-slice-read-if3 c = search needs
-
-mul-t16 : tie.Need-mul-t16
-mul-t16 c = search needs
-
-add-t17 : tie.Need-add-t17
-add-t17 c = search needs
-
-add-t18 : tie.Need-add-t18
-add-t18 c = search needs
+sum-of-requires : tie.Need-sum-of-requires
+sum-of-requires c κs = search needs
 
 same-length-2 : tie.Need-same-length-2
 same-length-2 c = search needs
 
 returns-2 : tie.Need-returns-2
 returns-2 c =
-    let after-sum-of = c .before .before .before in
-    let after-if1 = after-sum-of .before .before in
-    let after-whole-line = after-if1 .before .before .before in
-    let start = after-whole-line .before .before .before .before in
-    right-kind (after-whole-line .whole-line .ensures) (after-if1 .if1 .taken) (start .pre .1)
-    (sym (after-sum-of .sum-of .ensures) ∙ c .before .before .if2 .left) (c .if3 .taken)
+    let after-whole-line = c .before .before .before .before .before .before in
+    wrong-check (after-whole-line .whole-line .ensures) (guard-passes refl (c .before .before .before .if1 .left)) (after-whole-line .before .before .before .before .pre .1)
+    (λ y. c .if2 .taken (c .before .sum-of .ensures ∙ y))
+
+slice-read-if3 : tie.Need-slice-read-if3
+slice-read-if3 c = search needs
 
 same-length-3 : tie.Need-same-length-3
 same-length-3 c = search needs
@@ -98,37 +86,45 @@ same-length-3 c = search needs
 returns-3 : tie.Need-returns-3
 returns-3 c =
     let after-sum-of = c .before .before .before in
-    let after-if1 = after-sum-of .before .before in
-    let after-whole-line = after-if1 .before .before .before in
-    let start = after-whole-line .before .before .before .before in
-    wrong-kind (after-whole-line .whole-line .ensures) (after-if1 .if1 .taken) (start .pre .1)
-    (sym (after-sum-of .sum-of .ensures) ∙ c .before .before .if2 .left) (c .if3 .left)
+    let after-whole-line = after-sum-of .before .before .before .before .before in
+    wrong-kind (after-whole-line .whole-line .ensures) (guard-passes refl (after-sum-of .before .before .if1 .left)) (after-whole-line .before .before .before .before .pre .1)
+    (sym (after-sum-of .sum-of .ensures) ∙ c .before .before .if2 .left) (c .if3 .taken)
 
-fault-of-requires : tie.Need-fault-of-requires
-fault-of-requires c κs = search needs
+mul-t17 : tie.Need-mul-t17
+mul-t17 c = search needs
+
+add-t18 : tie.Need-add-t18
+add-t18 c = search needs
+
+add-t19 : tie.Need-add-t19
+add-t19 c = search needs
 
 same-length-4 : tie.Need-same-length-4
 same-length-4 c = search needs
 
 returns-4 : tie.Need-returns-4
-returns-4 c = other-line (c .before .before .before .before .whole-line .ensures) (c .before .if1 .left) (c .fault-of .ensures)
+returns-4 c =
+    let after-sum-of = c .before .before .before in
+    let after-whole-line = after-sum-of .before .before .before .before .before in
+    right-kind (after-whole-line .whole-line .ensures) (guard-passes refl (after-sum-of .before .before .if1 .left)) (after-whole-line .before .before .before .before .pre .1)
+    (sym (after-sum-of .sum-of .ensures) ∙ c .before .before .if2 .left) (c .if3 .left)
 
 pub frame-line-spec : {M : Type 1} → statement M
 frame-line-spec =
     tie.close
     (tie.spec
     whole-line-requires
-    sum-of-requires
+    fault-of-requires
     same-length
     returns
-    slice-read-if3
-    mul-t16
-    add-t17
-    add-t18
+    sum-of-requires
     same-length-2
     returns-2
+    slice-read-if3
     same-length-3
     returns-3
-    fault-of-requires
+    mul-t17
+    add-t18
+    add-t19
     same-length-4
     returns-4)

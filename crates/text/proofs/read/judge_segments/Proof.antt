@@ -2,121 +2,83 @@
 -- Assumes nothing.
 use Prim.Native.Nat.{ℕ, _-_}
 use mathlib.Core.List.{List, []}
-use mathlib.Core.Path.{_≡_, subst₂}
-use borrow.Author.Tests.{ltb-true}
+use mathlib.Core.Path.{_≡_, subst}
+use native.Mathlib.Omega.{arith}
 use lib.ListN.{length}
-use Rattle.frames.specs.Frame.{nodes, segments}
+use borrow.Author.Needs.{needs}
+use Rattle.frames.specs.declared.Head.{Head}
+use Rattle.frames.specs.Frame.{edition, nodes, segments}
+use Rattle.frames.specs.Decoded.{headFields}
+use Rattle.frames.proofs.FrameLaws.{limited}
 use Rattle.text.specs.Read.{segmentLines}
 use Rattle.text.specs.Told.{ReadTold, toldOf}
-use Rattle.frames.proofs.EditionLaws.{frames-few}
 use Rattle.text.proofs.LineLaws.{tells-frame}
 use Rattle.text.proofs.LinesRead.{Going, starts, goes-on, refuses, lacks, keeps}
-use native.Mathlib.Omega.{arith}
-use borrow.Author.Needs.{needs}
 use Rattle.text.proofs.read.judge_segments.Statement.{statement}
 use Rattle.text.proofs.read.judge_segments.Tie as tie
 
-as-head : {r : ReadTold} (h u : List ℕ) (e n m : ℕ) → n ≡ nodes h → m ≡ segments h → r ≡ toldOf (segmentLines e n m 2 [] h u)
-    → r ≡ toldOf (segmentLines e (nodes h) (segments h) 2 [] h u)
-as-head {r} h u e n m p q x = subst₂ (λ (a b : ℕ). r ≡ toldOf (segmentLines e a b 2 [] h u)) p q x
+as-head : {r : ReadTold} {head : Head} (h u : List ℕ) → head ≡ headFields h
+    → r ≡ toldOf (segmentLines (head .edition) (head .nodes) (head .segments) 2 [] h u)
+    → r ≡ toldOf (segmentLines (edition h) (nodes h) (segments h) 2 [] h u)
+as-head {r} h u p x = subst (λ (a : Head). r ≡ toldOf (segmentLines (a .edition) (a .nodes) (a .segments) 2 [] h u)) p x
 
 abbrev Inv-loop : tie.InvT-loop
-Inv-loop text start head e n segments size end index₀ s₀ at₀ index s at = Going text head start e n segments s at index
+Inv-loop text start first head segments end index₀ s₀ at₀ index s at = Going text first start head s at index
 
 abbrev μ-loop : tie.MeasureT-loop
-μ-loop text start head e n segments size end index₀ s₀ at₀ index s at = length text - at
+μ-loop text start first head segments end index₀ s₀ at₀ index s at = length text - at
 
-element-copy-out-e : tie.Need-element-copy-out-e Inv-loop μ-loop
-element-copy-out-e c = search needs
-
-word-at-requires : tie.Need-word-at-requires Inv-loop μ-loop
-word-at-requires c κs = search needs
-
-word-at-requires-2 : tie.Need-word-at-requires-2 Inv-loop μ-loop
-word-at-requires-2 c κs = search needs
-
-frame-bytes-requires : tie.Need-frame-bytes-requires Inv-loop μ-loop
-frame-bytes-requires c κs = search needs
+head-of-requires : tie.Need-head-of-requires Inv-loop μ-loop
+head-of-requires c κs = search needs
 
 no-corners-requires : tie.Need-no-corners-requires Inv-loop μ-loop
 no-corners-requires c κs = search needs
 
 loop-holds : tie.Need-loop-holds Inv-loop μ-loop
 loop-holds c =
-    starts (c .before .before .before .before .before .before .before .before .pre .0)
-    (c .before .before .before .before .before .before .before .before .pre .1) (search needs)
-    (c .before .before .before .before .word-at .ensures .0) (c .before .before .word-at2 .ensures .0) (c .no-corners .ensures)
+    let start = c .before .before .before .before in
+    starts (start .pre .0) (search needs) (limited (start .args .first .now) (c .before .head-of .ensures) (start .pre .1)) (c .no-corners .ensures)
 
 segment-line-requires : tie.Need-segment-line-requires Inv-loop μ-loop
-segment-line-requires c κs = (
-  omega arith,
-  omega arith,
-  λ h. omega (
-    arith,
-    ltb-true (c .before .before .loop .s)
-        (c .before .before .before .before .before .word-at2 .result) h,
-  ),
-)
+segment-line-requires c κs = (omega arith, c .before .before .loop .inv .limited)
 
 enum-known-fault : tie.Need-enum-known-fault Inv-loop μ-loop
 enum-known-fault c = search needs
 
-add-t25 : tie.Need-add-t25 Inv-loop μ-loop
-add-t25 c = omega arith
+add-t18 : tie.Need-add-t18 Inv-loop μ-loop
+add-t18 c = omega (arith, c .before .before .before .before .before .before .loop .inv .limited .few-segments)
 
 returns : tie.Need-returns Inv-loop μ-loop
 returns c =
-    as-head _ _ _ _ _ (c .before .before .before .before .before .before .before .before .before .before .before .word-at .ensures .0)
-    (c .before .before .before .before .before .before .before .before .before .word-at2 .ensures .0)
-    (refuses (c .before .before .before .before .before .before .loop .inv) (c .before .before .before .before .before .loop-test .taken)
-    (c .before .before .before .segment-line .ensures) (c .before .fault .given .1))
+    as-head _ _ (c .before .before .before .before .before .before .before .before .head-of .ensures)
+    (refuses (c .before .before .before .before .before .before .loop .inv) (c .before .before .before .before .before .loop-test .taken) (c .before .before .before .segment-line .ensures) (c .before .fault .given .1))
 
 enum-known-next : tie.Need-enum-known-next Inv-loop μ-loop
 enum-known-next c = search needs
 
 add-s : tie.Need-add-s Inv-loop μ-loop
-add-s c = omega arith
+add-s c = omega (arith, c .before .before .before .before .before .before .loop .inv .limited .few-segments)
 
 loop-less : tie.Need-loop-less Inv-loop μ-loop
 loop-less c = omega (arith, tells-frame _ _ (c .before .before .before .segment-line .ensures .answer) (c .before .next .given .1) .1)
 
 loop-again : tie.Need-loop-again Inv-loop μ-loop
 loop-again c =
-    goes-on (c .before .before .before .before .before .before .loop .inv) (c .before .before .before .before .before .loop-test .taken)
-    (c .before .before .before .segment-line .ensures) (c .before .next .given .1)
+    goes-on (c .before .before .before .before .before .before .loop .inv) (c .before .before .before .before .before .loop-test .taken) (c .before .before .before .segment-line .ensures) (c .before .next .given .1)
 
-add-t28 : tie.Need-add-t28 Inv-loop μ-loop
-add-t28 c = omega arith
+add-t21 : tie.Need-add-t21 Inv-loop μ-loop
+add-t21 c = omega (arith, c .before .before .loop .inv .limited .few-segments)
 
 returns-2 : tie.Need-returns-2 Inv-loop μ-loop
-returns-2 c =
-    as-head _ _ _ _ _ (c .before .before .before .before .before .before .before .word-at .ensures .0)
-    (c .before .before .before .before .before .word-at2 .ensures .0)
-    (lacks (c .before .before .loop .inv) (c .before .loop-test .left) (c .if1 .taken))
+returns-2 c = as-head _ _ (c .before .before .before .before .head-of .ensures) (lacks (c .before .before .loop .inv) (c .before .loop-test .left) (c .if1 .taken))
 
-mul-t29 : tie.Need-mul-t29 Inv-loop μ-loop
-mul-t29 c =
-    omega (
-      arith,
-      frames-few (c .before .before .before .before .frame-bytes .result)
-          (c .before .before .before .before .before .word-at2 .result) (c .before .before .before .before .frame-bytes .ensures .most)
-          (c .before .before .loop .inv .few-segments),
-    )
-
-add-t30 : tie.Need-add-t30 Inv-loop μ-loop
-add-t30 c =
-    omega (
-      arith,
-      frames-few (c .before .before .before .before .frame-bytes .result)
-          (c .before .before .before .before .before .word-at2 .result) (c .before .before .before .before .frame-bytes .ensures .most)
-          (c .before .before .loop .inv .few-segments),
-    )
+kept-bytes-requires : tie.Need-kept-bytes-requires Inv-loop μ-loop
+kept-bytes-requires c κs = c .before .before .loop .inv .limited
 
 returns-3 : tie.Need-returns-3 Inv-loop μ-loop
 returns-3 c =
-    as-head _ _ _ _ _ (c .before .before .before .before .before .before .before .word-at .ensures .0)
-    (c .before .before .before .before .before .word-at2 .ensures .0)
-    (keeps (c .before .before .loop .inv) (c .before .before .before .before .frame-bytes .ensures .is) (c .before .loop-test .left) (c .if1 .left))
+    as-head _ _ (c .before .before .before .before .before .head-of .ensures)
+    (keeps (c .before .before .before .loop .inv) (c .kept-bytes .ensures) (c .before .before .loop-test .left) (c .before .if1 .left))
 
 pub judge-segments-spec : {M : Type 1} → statement M
 judge-segments-spec =
@@ -124,22 +86,18 @@ judge-segments-spec =
     (tie.spec
     Inv-loop
     μ-loop
-    element-copy-out-e
-    word-at-requires
-    word-at-requires-2
-    frame-bytes-requires
+    head-of-requires
     no-corners-requires
     loop-holds
     segment-line-requires
     enum-known-fault
-    add-t25
+    add-t18
     returns
     enum-known-next
     add-s
     loop-less
     loop-again
-    add-t28
+    add-t21
     returns-2
-    mul-t29
-    add-t30
+    kept-bytes-requires
     returns-3)

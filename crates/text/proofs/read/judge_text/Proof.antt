@@ -3,33 +3,34 @@
 use Prim.Native.Nat.{ℕ, _+_, _*_, _≤_, _<_}
 use mathlib.Core.Bool.{true, false}
 use mathlib.Core.List.{List, []}
-use mathlib.Core.Path.{_≡_, refl, sym, ap, _∙_, subst, subst₂}
-use borrow.Author.Tests.{le-leb, lt-leb}
+use mathlib.Core.Path.{_≡_, refl, sym, ap, _∙_, subst}
+use native.Mathlib.Omega.{arith}
 use lib.ListN.{length, drop}
+use borrow.Author.Tests.{le-leb, lt-leb}
+use borrow.Author.Needs.{needs}
+use Rattle.lists.proofs.Facts.{guard-stops, guard-passes}
+use Rattle.lists.proofs.Lists.{length-of-none, length-of-some}
 use Rattle.refusals.specs.declared.Refusal.{Refusal}
+use Rattle.refusals.specs.declared.Refusal.the-variants.{WrongFrame, WrongField, OutputTooShort}
 use Rattle.refusals.specs.Numbers.{numberOf}
 use Rattle.refusals.proofs.Positive.{positive}
-use Rattle.refusals.specs.declared.Refusal.the-variants.{WrongFrame, WrongField, OutputTooShort}
-use Rattle.text.specs.declared.read.LineRead.{LineRead}
-use Rattle.text.specs.declared.read.LineRead.the-variants.{Faulty}
-use Rattle.text.specs.declared.ReadAnswer.the-variants.{Refused}
-use Rattle.digits.specs.Digits.{lineOf, bytesOf, restOf}
+use Rattle.frames.specs.declared.Head.{Head}
 use Rattle.frames.specs.Edition.{frameBytes}
 use Rattle.frames.specs.Frame.{edition, nodes, segments}
 use Rattle.frames.specs.Ranges.{headOk}
 use Rattle.frames.specs.Faults.{headFault}
-use Rattle.text.specs.Read.{segmentLines, afterHead, readOf}
+use Rattle.frames.proofs.FrameLaws.{framed-good, framed-has, limited}
 use Rattle.network.specs.Network.{keptBytes}
+use Rattle.digits.specs.Digits.{lineOf, bytesOf, restOf}
+use Rattle.digits.proofs.DigitLaws.{line-after}
+use Rattle.text.specs.declared.read.LineRead.{LineRead}
+use Rattle.text.specs.declared.read.LineRead.the-variants.{Faulty}
+use Rattle.text.specs.declared.ReadAnswer.the-variants.{Refused}
+use Rattle.text.specs.Read.{segmentLines, afterHead, readOf}
 use Rattle.text.specs.Told.{ReadTold, toldOf, told}
 use Rattle.text.specs.Steps.Lines.{FrameRead}
-use Rattle.lists.proofs.Lists.{length-of-none, length-of-some}
-use Rattle.frames.proofs.EditionLaws.{frames-few}
-use Rattle.digits.proofs.DigitLaws.{line-after}
-use Rattle.frames.proofs.FrameLaws.{framed-good, framed-has, head-limits}
 use Rattle.text.proofs.LineLaws.{Framing, framing, faulting}
 use Rattle.text.proofs.LinesRead.{fault-decides}
-use native.Mathlib.Omega.{arith}
-use borrow.Author.Needs.{needs}
 use Rattle.text.proofs.read.judge_text.Statement.{statement}
 use Rattle.text.proofs.read.judge_text.Tie as tie
 
@@ -73,13 +74,13 @@ module _ (t : List ℕ) (room : ℕ) where
             let e : 0 + (2 * 7 + 1) ≡ next = omega (arith, w .next-is) in
             (omega (arith, q .0, e), q .1 ∙ ap (λ (i : ℕ). drop i t) e)
 
-        module _ {size m : ℕ} (q : size ≡ frameBytes (edition f)) (p : m ≡ segments f) where
-          no-room : room < 7 + size * m → told (Refused OutputTooShort 1) ≡ toldOf (readOf t room)
-          no-room l = rw (good-head, lt-leb (keptBytes f) room (subst₂ (λ (y z : ℕ). room < 7 + y * z) q p l))
+        module _ {count : ℕ} (q : count ≡ keptBytes f) where
+          no-room : room < count → told (Refused OutputTooShort 1) ≡ toldOf (readOf t room)
+          no-room l = rw (good-head, lt-leb (keptBytes f) room (subst (λ (y : ℕ). room < y) q l))
 
-          by-lines : {r : ReadTold} → 7 + size * m ≤ room
-              → r ≡ toldOf (segmentLines (edition f) (nodes f) (segments f) 2 [] f (drop next t)) → r ≡ toldOf (readOf t room)
-          by-lines l e = rw (good-head, le-leb (keptBytes f) room (subst₂ (λ (y z : ℕ). 7 + y * z ≤ room) q p l), place .1) e
+          by-lines : {r : ReadTold} → count ≤ room → r ≡ toldOf (segmentLines (edition f) (nodes f) (segments f) 2 [] f (drop next t))
+              → r ≡ toldOf (readOf t room)
+          by-lines l e = rw (good-head, le-leb (keptBytes f) room (subst (λ (y : ℕ). y ≤ room) q l), place .1) e
 
 frame-here : (c : tie.After-known-told2)
     → Framing 1 7 (c .before .before .before .before .before .before .before .before .args .text .now) 0
@@ -89,13 +90,11 @@ frame-here c = framing refl (c .before .before .before .before .frame-line .ensu
 some-text : (c : tie.After-known-told2) → length (c .before .before .before .before .before .before .before .before .args .text .now) ≡ 0 → ⊥
 some-text c = c .before .before .before .before .before .before .if1 .left
 
-good-fields : (c : tie.Then2) → headOk (c .before .before .before .before .before .before .before .frame-line .last .1 .1 .1 .0) ≡ true
-good-fields c = sym (c .before .head-ok .ensures) ∙ c .if2 .taken
+good-fields : (c : tie.Else2) → headOk (c .before .before .before .before .before .before .before .frame-line .last .1 .1 .1 .0) ≡ true
+good-fields c = guard-passes (c .before .head-ok .ensures) (c .if2 .left)
 
-fits : (c : tie.After-frame-bytes) → c .frame-bytes .result * c .before .word-at .result ≤ 32 * 1000
-fits c =
-    frames-few (c .frame-bytes .result) (c .before .word-at .result) (c .frame-bytes .ensures .most)
-    (omega (arith, c .before .word-at .ensures .0, head-limits _ (good-fields (c .before .before .before)) .few-segments))
+promised : (c : tie.After-kept-bytes) → c .kept-bytes .result ≡ keptBytes (c .before .before .before .before .before .before .before .before .before .before .frame-line .last .1 .1 .1 .0)
+promised c = c .kept-bytes .ensures ∙ ap (λ (x : Head). 7 + frameBytes (x .edition) * x .segments) (c .before .head-of .ensures)
 
 returns : tie.Need-returns
 returns c = empty _ _ (c .if1 .taken)
@@ -118,23 +117,24 @@ slice-aggregate-head-ok c = search needs
 head-ok-requires : tie.Need-head-ok-requires
 head-ok-requires c κs = search needs
 
-slice-aggregate-word-at : tie.Need-slice-aggregate-word-at
-slice-aggregate-word-at c = search needs
+returns-2 : tie.Need-returns-2
+returns-2 c =
+    let line = c .before .before .before in
+    wrong-head _ _ (some-text line) (frame-here line) (guard-stops (c .before .head-ok .ensures) (c .if2 .taken))
 
-word-at-requires : tie.Need-word-at-requires
-word-at-requires c κs = search needs
+slice-aggregate-head-of : tie.Need-slice-aggregate-head-of
+slice-aggregate-head-of c = search needs
 
-array-read-frame-bytes : tie.Need-array-read-frame-bytes
-array-read-frame-bytes c = search needs
+head-of-requires : tie.Need-head-of-requires
+head-of-requires c κs = search needs
 
-frame-bytes-requires : tie.Need-frame-bytes-requires
-frame-bytes-requires c κs = search needs
+kept-bytes-requires : tie.Need-kept-bytes-requires
+kept-bytes-requires c κs = limited _ (c .head-of .ensures) (good-fields (c .before .before))
 
-mul-if3 : tie.Need-mul-if3
-mul-if3 c = omega (arith, fits c)
-
-add-if3 : tie.Need-add-if3
-add-if3 c = omega (arith, fits c)
+returns-3 : tie.Need-returns-3
+returns-3 c =
+    let line = c .before .before .before .before .before .before .before in
+    no-room _ _ (some-text line) (frame-here line) (good-fields (c .before .before .before .before)) (promised (c .before)) (c .if3 .taken)
 
 judge-segments-requires : tie.Need-judge-segments-requires
 judge-segments-requires c κs =
@@ -142,28 +142,14 @@ judge-segments-requires c κs =
     let good = good-fields (c .before .before .before .before .before) in
     (place _ 0 (some-text line) (frame-here line) good .0, good)
 
-returns-2 : tie.Need-returns-2
-returns-2 c =
-    let line = c .before .before .before .before .before .before .before .before .before in
-    by-lines _ _ (some-text line) (frame-here line) (good-fields (c .before .before .before .before .before .before))
-    (c .before .before .before .frame-bytes .ensures .is)
-    (c .before .before .before .before .word-at .ensures .0) (c .before .before .if3 .taken) (c .judge-segments .ensures)
-
-returns-3 : tie.Need-returns-3
-returns-3 c =
-    let line = c .before .before .before .before .before .before .before in
-    no-room _ _ (some-text line) (frame-here line) (good-fields (c .before .before .before .before)) (c .before .frame-bytes .ensures .is)
-    (c .before .before .word-at .ensures .0) (c .if3 .left)
-
 returns-4 : tie.Need-returns-4
 returns-4 c =
-    bad-line _ _ (c .before .before .before .before .before .before .if1 .left) refl
-    (c .before .before .before .before .frame-line .ensures) (c .before .fault .given .1)
+    bad-line _ _ (c .before .before .before .before .before .before .if1 .left) refl (c .before .before .before .before .frame-line .ensures) (c .before .fault .given .1)
 
 returns-5 : tie.Need-returns-5
 returns-5 c =
-    let line = c .before .before .before in
-    wrong-head _ _ (some-text line) (frame-here line) (sym (c .before .head-ok .ensures) ∙ c .if2 .left)
+    let line = c .before .before .before .before .before .before .before .before .before in
+    by-lines _ _ (some-text line) (frame-here line) (good-fields (c .before .before .before .before .before .before)) (promised (c .before .before .before)) (c .before .before .if3 .left) (c .judge-segments .ensures)
 
 pub judge-text-spec : {M : Type 1} → statement M
 judge-text-spec =
@@ -176,14 +162,11 @@ judge-text-spec =
     enum-known-next
     slice-aggregate-head-ok
     head-ok-requires
-    slice-aggregate-word-at
-    word-at-requires
-    array-read-frame-bytes
-    frame-bytes-requires
-    mul-if3
-    add-if3
-    judge-segments-requires
     returns-2
+    slice-aggregate-head-of
+    head-of-requires
+    kept-bytes-requires
     returns-3
+    judge-segments-requires
     returns-4
     returns-5)

@@ -4,18 +4,20 @@
 use Prim.Native.Nat.{ℕ, _+_, _*_, _≤_}
 use mathlib.Core.List.{List, _++_}
 use mathlib.Core.Path.{_≡_, refl, sym, ap, _∙_, subst₂}
+use native.Mathlib.Omega.{arith}
 use lib.ListN.{length, drop}
+use borrow.Author.Needs.{needs}
 use Rattle.refusals.specs.declared.Refusal.{Refusal}
-use Rattle.text.specs.declared.ReadAnswer.the-variants.{Refused, Kept}
+use Rattle.frames.specs.declared.Head.{Head}
 use Rattle.frames.specs.Edition.{frameBytes}
 use Rattle.frames.specs.Frame.{edition, segments}
-use Rattle.text.specs.Read.{Reading, readOf, kept}
+use Rattle.frames.specs.Decoded.{headFields}
 use Rattle.digits.specs.Steps.Scan.{spelled}
-use Rattle.text.specs.Steps.Spelled.{spelledText}
+use Rattle.text.specs.declared.ReadAnswer.the-variants.{Refused, Kept}
+use Rattle.text.specs.Read.{Reading, readOf, kept}
 use Rattle.text.specs.Told.{told, toldOf, written, outputOf, ReadDid}
+use Rattle.text.specs.Steps.Spelled.{spelledText}
 use Rattle.text.proofs.KeptText.{TextKept, text-kept, was-refused, was-kept}
-use native.Mathlib.Omega.{arith}
-use borrow.Author.Needs.{needs}
 use Rattle.text.proofs.read.read.Statement.{statement}
 use Rattle.text.proofs.read.read.Tie as tie
 
@@ -34,21 +36,21 @@ keeps {t} {room} {count} e =
     let q = was-kept (readOf t room) count e in
     record { b = q .0; is = q .1; long = q .2; text = text-kept t room (q .0) (q .1) }
 
-module _ {t : List ℕ} {room count : ℕ} (k : Keeps t room count) {h : List ℕ} {size m : ℕ}
-    (p : h ≡ spelled 7 t) (q : size ≡ frameBytes (edition h)) (r : m ≡ segments h) where
+module _ {t : List ℕ} {room count : ℕ} (k : Keeps t room count) {h : List ℕ} {size : ℕ} {head : Head}
+    (p : h ≡ spelled 7 t) (q : size ≡ frameBytes (head .edition)) (r : head ≡ headFields h) where
   size-is : size ≡ frameBytes (k .text .e)
-  size-is = q ∙ ap frameBytes (ap edition p ∙ sym (k .text .e-is))
+  size-is = q ∙ ap (λ (x : Head). frameBytes (x .edition)) r ∙ ap frameBytes (ap edition p ∙ sym (k .text .e-is))
 
-  count-is : m ≡ k .text .s
-  count-is = r ∙ ap segments p ∙ sym (k .text .s-is)
+  count-is : head .segments ≡ k .text .s
+  count-is = ap (λ (x : Head). x .segments) r ∙ ap segments p ∙ sym (k .text .s-is)
 
-  rooms : (15 + (2 * size + 1) * m ≤ length t) × (7 + size * m ≤ room)
+  rooms : (15 + (2 * size + 1) * head .segments ≤ length t) × (7 + size * head .segments ≤ room)
   rooms =
       subst₂ (λ (i j : ℕ). (15 + (2 * i + 1) * j ≤ length t) × (7 + i * j ≤ room)) (sym size-is) (sym count-is) (k .text .long, k .text .fits)
 
-  writes : {o o′ : List ℕ} → length o ≡ room → o′ ≡ spelledText size m t ++ drop (7 + size * m) o → ReadDid t o o′ (Kept count)
+  writes : {o o′ : List ℕ} → length o ≡ room → o′ ≡ spelledText size (head .segments) t ++ drop (7 + size * head .segments) o → ReadDid t o o′ (Kept count)
   writes {o} {o′} l e =
-      let g : spelledText size m t ++ drop (7 + size * m) o ≡ k .b ++ drop (length (k .b)) o =
+      let g : spelledText size (head .segments) t ++ drop (7 + size * head .segments) o ≡ k .b ++ drop (length (k .b)) o =
       subst₂ (λ (i j : ℕ). spelledText i j t ++ drop (7 + i * j) o ≡ k .b ++ drop (length (k .b)) o) (sym size-is) (sym count-is)
       (rw (sym (k .text .count)) (ap (λ (x : List ℕ). x ++ drop (length (k .b)) o) (sym (k .text .bytes)))) in
       let y : readOf t (length o) ≡ kept (k .b) = ap (readOf t) l ∙ k .is in
@@ -77,23 +79,18 @@ slice-aggregate-decode-into c = search needs
 decode-into-requires : tie.Need-decode-into-requires
 decode-into-requires c κs = omega (arith, kept-here (c .before) .text .long)
 
-slice-aggregate-word-at : tie.Need-slice-aggregate-word-at
-slice-aggregate-word-at c = search needs
+slice-aggregate-head-of : tie.Need-slice-aggregate-head-of
+slice-aggregate-head-of c = search needs
 
-word-at-requires : tie.Need-word-at-requires
-word-at-requires c κs = search needs
-
-array-read-frame-bytes : tie.Need-array-read-frame-bytes
-array-read-frame-bytes c = search needs
+head-of-requires : tie.Need-head-of-requires
+head-of-requires c κs = search needs
 
 frame-bytes-requires : tie.Need-frame-bytes-requires
 frame-bytes-requires c κs = search needs
 
 write-frames-requires : tie.Need-write-frames-requires
 write-frames-requires c κs =
-    let r = rooms (kept-here (c .before .before .before .before .before .before .before))
-    (c .before .before .before .before .before .decode-into .ensures .bytes) (c .before .frame-bytes .ensures .is)
-    (c .before .before .word-at .ensures .0) in
+    let r = rooms (kept-here (c .before .before .before .before .before .before .before)) (c .before .before .before .before .before .decode-into .ensures .bytes) (c .before .frame-bytes .ensures .is) (c .before .before .head-of .ensures) in
     (r .0, r .1, c .before .frame-bytes .ensures .most)
 
 returns : tie.Need-returns
@@ -104,9 +101,7 @@ same-length c = search needs
 
 returns-2 : tie.Need-returns-2
 returns-2 c =
-    writes (kept-here (c .before .before .before .before .before .before .before .before .before .before))
-    (c .before .before .before .before .before .before .before .before .decode-into .ensures .bytes)
-    (c .before .before .before .before .frame-bytes .ensures .is) (c .before .before .before .before .before .word-at .ensures .0) refl
+    writes (kept-here (c .before .before .before .before .before .before .before .before .before .before)) (c .before .before .before .before .before .before .before .before .decode-into .ensures .bytes) (c .before .before .before .before .frame-bytes .ensures .is) (c .before .before .before .before .before .head-of .ensures) refl
     (c .before .before .write-frames .ensures)
 
 pub read-spec : {M : Type 1} → statement M
@@ -118,9 +113,8 @@ read-spec =
     enum-known-count
     slice-aggregate-decode-into
     decode-into-requires
-    slice-aggregate-word-at
-    word-at-requires
-    array-read-frame-bytes
+    slice-aggregate-head-of
+    head-of-requires
     frame-bytes-requires
     write-frames-requires
     returns

@@ -5,16 +5,16 @@ use Prim.Native.Nat.{ℕ, _+_, _*_, _-_, _≤_, _<_}
 use mathlib.Core.Bool.{Bool, true, false}
 use mathlib.Core.List.{List}
 use mathlib.Core.Path.{_≡_, refl, sym, ap, _∙_}
-use borrow.Author.Tests.{eq-eqb, ne-eqb}
+use native.Mathlib.Omega.{arith}
 use lib.ListN.{length, drop, getD, length-drop}
 use lib.Seq.{getD-drop}
+use borrow.Author.Tests.{eq-eqb, ne-eqb}
+use borrow.Author.Needs.{needs}
+use Rattle.lists.proofs.Lists.{true-is-false}
 use Rattle.digits.specs.Digits.{bytesOf}
 use Rattle.digits.specs.Steps.Scan.{spelled, Decoding}
-use Rattle.text.specs.Steps.Lines.{bytesAt, LineDecoded}
-use Rattle.lists.proofs.Lists.{true-is-false}
 use Rattle.digits.proofs.DigitLaws.{length-spelled, whole-line, line-after, line-digits}
-use native.Mathlib.Omega.{arith}
-use borrow.Author.Needs.{needs}
+use Rattle.text.specs.Steps.Lines.{bytesAt, LineDecoded}
 use Rattle.text.proofs.read.whole_line.Statement.{statement}
 use Rattle.text.proofs.read.whole_line.Tie as tie
 
@@ -56,19 +56,19 @@ add-if2 c = search needs
 shared-slice-read-if2 : tie.Need-shared-slice-read-if2
 shared-slice-read-if2 c = search needs
 
+returns-2 : tie.Need-returns-2
+returns-2 c = no-end (c .before .before .before .before .before .pre .0) (c .before .before .before .before .before .pre .1) (c .if2 .taken)
+
 decode-into-requires : tie.Need-decode-into-requires
 decode-into-requires c κs = search needs
 
 same-length : tie.Need-same-length
 same-length c = search needs
 
-returns-2 : tie.Need-returns-2
-returns-2 c =
+returns-3 : tie.Need-returns-3
+returns-3 c =
     let start = c .before .before .before .before .before .before .before .before .before in
     decoded (start .pre .0) (start .pre .1) (omega arith) (omega arith) (c .before .before .decode-into .ensures)
-
-returns-3 : tie.Need-returns-3
-returns-3 c = no-end (c .before .before .before .before .before .pre .0) (c .before .before .before .before .before .pre .1) (c .if2 .left)
 
 pub whole-line-spec : {M : Type 1} → statement M
 whole-line-spec =
@@ -79,7 +79,7 @@ whole-line-spec =
     returns
     add-if2
     shared-slice-read-if2
+    returns-2
     decode-into-requires
     same-length
-    returns-2
     returns-3)

@@ -4,14 +4,14 @@ use Prim.Native.Nat.{ℕ, suc, _+_, _*_, _-_, _≤_, _<_}
 use mathlib.Core.List.{List, _++_, append-assoc, append-nil}
 use mathlib.Core.Path.{_≡_, refl, sym, ap, _∙_}
 use native.Mathlib.Nat.{sub-zero, mul-zero, mul-le-mul-left}
+use native.Mathlib.Omega.{arith}
 use lib.ListN.{length, drop, take, length-append, length-take, length-drop, take-append-drop}
 use lib.Seq.{take-at, drop-at, drop-drop, drop-append-add}
-use Rattle.digits.specs.Steps.Scan.{spelled}
-use Rattle.text.specs.Steps.Spelled.{spelledLines, spelledText}
-use Rattle.lists.proofs.Lists.{times-next}
-use Rattle.digits.proofs.DigitLaws.{length-spelled}
-use native.Mathlib.Omega.{arith}
 use borrow.Author.Needs.{needs}
+use Rattle.lists.proofs.Lists.{times-next}
+use Rattle.digits.specs.Steps.Scan.{spelled}
+use Rattle.digits.proofs.DigitLaws.{length-spelled}
+use Rattle.text.specs.Steps.Spelled.{spelledLines, spelledText}
 use Rattle.text.proofs.read.write_frames.Statement.{statement}
 use Rattle.text.proofs.read.write_frames.Tie as tie
 
