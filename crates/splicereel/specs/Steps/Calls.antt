@@ -1,4 +1,4 @@
--- What the steps of Route and Least stress promise to each other.
+-- What the functions behind Route and Least stress ask of one another and promise to one another. What the calls promise stands in specs/Promises.antt.
 -- Assumes nothing.
 use Prim.Native.Nat.{ℕ, _+_, _≤_, _<_}
 use mathlib.Core.Path.{_≡_}
