@@ -19,17 +19,21 @@ use Rattle.network.specs.Network.{segmentsOf}
 use Rattle.text.specs.Samples.{characters}
 use Rattle.stress.specs.declared.segment.Grade.{Grade}
 use Rattle.streets.specs.Bicycle.{segmentGrade}
-use Rattle.printing.specs.Output.{Wrote, decimal}
-use Rattle.levels.specs.Levels.{levelLine, levelLines, refusedLine, levelsRoom, levelsOf, PrintsLevels}
-use Rattle.printing.proofs.Writing.{wrote-length, wrote-then, wrote-nothing, field-length}
+use Rattle.printing.specs.Output.{Wrote}
+use Rattle.levels.specs.Levels.{inDecimal, levelLine, levelLines, refusedLine, levelsRoom, levelsOf, PrintsLevels}
+use Rattle.printing.proofs.Decimal.{decimal-length}
+use Rattle.printing.proofs.Writing.{wrote-length, wrote-then, wrote-nothing}
 use Rattle.text.proofs.ReadTheorems.{kept-front}
+
+pub field-length : (n byte : ℕ) → length (inDecimal n ++ (byte ∷ [])) ≤ 21
+field-length n byte = omega (arith, length-append (inDecimal n) (byte ∷ []), decimal-length 20 n)
 
 line-length : (net : List ℕ) (s : ℕ) → length (levelLine net s) ≤ 63
 unfolding levelLine
 line-length net s =
-    let one = decimal 20 s ++ (32 ∷ []) in
-    let two = decimal 20 (segmentGrade net s .level) ++ (32 ∷ []) in
-    let three = decimal 20 (segmentGrade net s .measure) ++ (10 ∷ []) in
+    let one = inDecimal s ++ (32 ∷ []) in
+    let two = inDecimal (segmentGrade net s .level) ++ (32 ∷ []) in
+    let three = inDecimal (segmentGrade net s .measure) ++ (10 ∷ []) in
     omega (
       arith,
       length-append (one ++ two) three,
@@ -71,15 +75,15 @@ printed-more {net} {before} {after} {after′} {s} {place} {place′} P W room =
 
 -- one line, from its three fields
 pub line-wrote : (net : List ℕ) (s : ℕ) {before b c after : List ℕ} {place m k next : ℕ} (grade : Grade) → grade ≡ segmentGrade net s
-    → Wrote place (decimal 20 s ++ (32 ∷ [])) before b m
-    → Wrote m (decimal 20 (grade .level) ++ (32 ∷ [])) b c k
-    → Wrote k (decimal 20 (grade .measure) ++ (10 ∷ [])) c after next
+    → Wrote place (inDecimal s ++ (32 ∷ [])) before b m
+    → Wrote m (inDecimal (grade .level) ++ (32 ∷ [])) b c k
+    → Wrote k (inDecimal (grade .measure) ++ (10 ∷ [])) c after next
     → place + 63 ≤ length before
     → Wrote place (levelLine net s) before after next
 unfolding levelLine
 line-wrote net s grade g U W X room =
-    let one = decimal 20 s ++ (32 ∷ []) in
-    let two = decimal 20 (grade .level) ++ (32 ∷ []) in
+    let one = inDecimal s ++ (32 ∷ []) in
+    let two = inDecimal (grade .level) ++ (32 ∷ []) in
     rw (sym g)
     (wrote-then
     (wrote-then U W (omega (arith, field-length s 32)))
@@ -89,13 +93,13 @@ line-wrote net s grade g U W X room =
 -- the line of a refusal
 pub refusal-wrote : {before b c after : List ℕ} {m k next : ℕ} (number line : ℕ)
     → Wrote 0 (characters "refused ") before b m
-    → Wrote m (decimal 20 number ++ (32 ∷ [])) b c k
-    → Wrote k (decimal 20 line ++ (10 ∷ [])) c after next
+    → Wrote m (inDecimal number ++ (32 ∷ [])) b c k
+    → Wrote k (inDecimal line ++ (10 ∷ [])) c after next
     → 65536 ≤ length before
     → Wrote 0 (refusedLine number line) before after next × (next ≤ 65536)
 unfolding refusedLine
 refusal-wrote number line U W X room =
-    let one = decimal 20 number ++ (32 ∷ []) in (
+    let one = inDecimal number ++ (32 ∷ []) in (
       wrote-then (wrote-then U W (omega arith)) X (omega (arith, length-append (characters "refused ") one, field-length number 32)),
       omega (arith, X .end, W .end, U .end, field-length number 32, field-length line 10),
     )

@@ -1,20 +1,31 @@
 // What program levels prints of a text.
 ghost use mathlib.Core.Path.{_≡_};
 ghost use mathlib.Core.Bool.{true};
+ghost use mathlib.Core.List.{[], _∷_, _++_};
 ghost use Prim.Native.Nat.{_+_, _≤_};
 ghost use lib.ListN.{length};
 ghost use Rattle.network.specs.Network.{segmentsOf, isNetwork};
 ghost use Rattle.refusals.specs.Numbers.{numberOf};
 ghost use Rattle.streets.specs.Runs.{SegmentOf};
 ghost use Rattle.printing.specs.Output.{Wrote};
-ghost use Rattle.levels.specs.Levels.{levelLine, levelLines, refusedLine, PrintsLevels};
+ghost use Rattle.levels.specs.Levels.{inDecimal, levelLine, levelLines, refusedLine, PrintsLevels};
+use printing::put_byte;
 use printing::put_bytes;
-use printing::put_field;
+use printing::put_number;
 use refusals::Refusal;
 use refusals::number_of;
 use streets::runs::segment_grade;
 use streets::runs::segments_of;
 use text::ReadAnswer;
+
+// A number in decimal, and one byte after it.
+fn put_field(n: usize, byte: u8, place: usize, out: &mut [u8]) -> usize
+    requires { ⌜ place + 21 ≤ length (now out) ⌝ }
+    ensures { λ r. ⌜ Wrote place (inDecimal n ++ (byte ∷ [])) (now (out .entry)) (now (out .exit)) r ⌝ }
+{
+    let next = put_number(n, place, out);
+    put_byte(byte, next, out)
+}
 
 // One line: a segment's number, level and measure.
 fn put_level(net: &[u8], segment: usize, place: usize, out: &mut [u8]) -> usize

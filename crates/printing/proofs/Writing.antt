@@ -1,19 +1,16 @@
 -- Writing xs and then ys right after it is writing xs ++ ys: the front of what the first wrote stays, and what lies past both is as it was. A store is
 -- the writing of one element. So what a run of writes leaves is one equation.
 -- Assumes nothing.
-use Prim.Native.Nat.{ℕ, zero, suc, _+_, _-_, _/_, _%_, _≤_, _<_}
-use native.Mathlib.Nat.{add-zero, not-suc-le-zero}
+use Prim.Native.Nat.{ℕ, _+_, _-_, _≤_, _<_}
+use native.Mathlib.Nat.{add-zero}
 use native.Mathlib.Numerals.{add-one}
 use native.Mathlib.Omega.{arith}
 use mathlib.Core.Path.{_≡_, refl, sym, _∙_, ap, ap₂}
-use mathlib.Core.Bool.{Bool, true, false, cond}
-use mathlib.Core.List.{List, [], _∷_, _++_, append-assoc}
-use lib.Dec.{ltb}
-use borrow.Author.Tests.{lt-ltb, le-ltb}
-use lib.ListN.{length, take, drop, getD, set, length-append, length-drop, take-append-drop}
-use lib.Seq.{length-take-le, take-suc, take-at, drop-append-add, drop-drop, set-split}
+use mathlib.Core.List.{List, [], _∷_, _++_, append-assoc, append-nil}
+use lib.ListN.{length, take, drop, set, length-append, length-drop, take-append-drop, drop-of-length-le}
+use lib.Seq.{length-take-le, take-at, take-all, take-length, drop-append-add, drop-drop, set-split}
 use Rattle.lists.specs.Placed.{placed}
-use Rattle.printing.specs.Output.{Wrote, decimal}
+use Rattle.printing.specs.Output.{Wrote}
 
 module _ (place : ℕ) (xs b : List ℕ) (fits : place + length xs ≤ length b) where
   front : length (take place b ++ xs) ≡ place + length xs
@@ -61,38 +58,9 @@ wrote-nothing place b = record { text = rw (add-zero place) (sym (take-append-dr
 pub wrote-byte : (place x : ℕ) (b : List ℕ) → place < length b → Wrote place (x ∷ []) b (set b place x) (place + 1)
 wrote-byte place x b inside = record { text = rw (add-one place) (set-split b place x inside); end = refl }
 
--- ---- decimal
-pub decimal-length : (k n : ℕ) → length (decimal k n) ≤ k
-unfolding decimal
-decimal-length zero n = omega arith
-decimal-length (suc k) n = go (ltb n 10) (decimal-length k (n / 10))
-  where
-    go : (t : Bool) → length (decimal k (n / 10)) ≤ k
-        → length (cond t ((48 + n) ∷ []) (decimal k (n / 10) ++ ((48 + n % 10) ∷ []))) ≤ suc k
-    go true h = omega arith
-    go false h = omega (arith, length-append (decimal k (n / 10)) ((48 + n % 10) ∷ []))
-
-pub decimal-none : (k n : ℕ) → k ≡ 0 → decimal k n ≡ []
-unfolding decimal
-decimal-none k n e = rw e
-
-pub decimal-one : (k n : ℕ) → 1 ≤ k → n < 10 → decimal k n ≡ (48 + n) ∷ []
-unfolding decimal
-decimal-one zero n l h = absurd (not-suc-le-zero l)
-decimal-one (suc k) n l h = rw (lt-ltb n 10 h)
-
-pub decimal-more : (k n : ℕ) → 1 ≤ k → 10 ≤ n → decimal k n ≡ decimal (k - 1) (n / 10) ++ ((48 + n % 10) ∷ [])
-unfolding decimal
-decimal-more zero n l h = absurd (not-suc-le-zero l)
-decimal-more (suc k) n l h =
-    let back : suc k - 1 ≡ k = omega arith in
-    rw (le-ltb n 10 h, back)
-
-pub field-length : (n byte : ℕ) → length (decimal 20 n ++ (byte ∷ [])) ≤ 21
-field-length n byte = omega (arith, length-append (decimal 20 n) (byte ∷ []), decimal-length 20 n)
-
--- the bytes of a list one after the other
-pub wrote-more : (bytes : List ℕ) (i : ℕ) {place next next′ : ℕ} {b c d : List ℕ} → Wrote place (take i bytes) b c next → Wrote next (getD bytes i 0 ∷ []) c d next′
-    → i < length bytes → place + length bytes ≤ length b → Wrote place (take (i + 1) bytes) b d next′
-wrote-more bytes i U W l fits =
-    rw (add-one i, take-suc bytes i 0 l) (wrote-then U W (omega (arith, length-take-le i bytes (omega arith))))
+-- xs copied to the front of a list's tail, and the tail put back
+pub copied-at : (xs out : List ℕ) (place size : ℕ) → size ≡ length out - place
+    → take place out ++ ((take (length xs) xs ++ drop (length xs) (take size (drop place out))) ++ drop size (drop place out)) ≡ placed place xs out
+copied-at xs out place size e =
+    let tail : length (drop place out) ≤ size = omega (arith, length-drop place out) in
+    rw (drop-of-length-le (drop place out) {i = size} tail, take-all size (drop place out) tail, append-nil, take-length xs, drop-drop (length xs) place out)

@@ -1,4 +1,2 @@
-pub mod Copying
-pub mod Digits
 pub mod Numbers
 pub mod Riding

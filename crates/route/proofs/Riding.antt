@@ -84,12 +84,12 @@ front {g} {t} {a} {b} {before} {after} {told} W =
     )
 
 module _ {net : List ℕ} {from to : ℕ} {before after : Lent} {route : FoundRoute} where
-  pub route-front : {t : ℕ} {answer : RouteAnswer} → answer ≡ Found route → RoutePromise net from to t 0 before after answer
+  pub route-front : {t : ℕ} {answer : RouteAnswer} → answer ≡ Found route → RoutePromise net from to t before after 0 answer
       → (route .count ≤ length (after .buffer)) × Route (bicycle net) from to (take (route .count) (after .buffer))
   route-front {t} {answer} e P =
-      front (subst (λ (y : RouteAnswer). RoutePromise net from to t 0 before after y) e P .holds)
+      front (subst (λ (y : RouteAnswer). RoutePromise net from to t before after 0 y) e P .holds)
 
-  pub least-front : {t : ℕ} {answer : LeastAnswer} → answer ≡ Found route t → LeastPromise net from to 0 before after answer
+  pub least-front : {t : ℕ} {answer : LeastAnswer} → answer ≡ Found route t → LeastPromise net from to before after 0 answer
       → (route .count ≤ length (after .buffer)) × Route (bicycle net) from to (take (route .count) (after .buffer))
   least-front {t} {answer} e P =
-      front (subst (λ (y : LeastAnswer). LeastPromise net from to 0 before after y) e P .holds .drawn)
+      front (subst (λ (y : LeastAnswer). LeastPromise net from to before after 0 y) e P .holds .drawn)

@@ -4,6 +4,7 @@ ghost use Prim.Native.Nat.{_+_, _-_, _≤_};
 ghost use lib.ListN.{length};
 ghost use Rattle.printing.specs.Output.{Wrote};
 ghost use Rattle.route.specs.Page.{pageSize, Spelled};
+use printing::put_bytes;
 
 // Room for the longest answer, a route of 2,000 runs.
 pub const PAGE: usize = 524288;
@@ -14,18 +15,11 @@ pub fn page() -> [u8; PAGE]
     [b' '; PAGE]
 }
 
-fn copy_at(words: &[u8], place: usize, out: &mut [u8]) -> usize
-    requires { ⌜ place + length (now words) ≤ length (now out) ⌝ }
-    ensures { λ r. ⌜ Wrote place (now (words .entry)) (now (out .entry)) (now (out .exit)) r ⌝ }
-{
-    place + bytes::copy(words, &mut out[place..])
-}
-
 pub fn put(words: &[u8], place: usize, page: &mut [u8; PAGE]) -> usize
     requires { ⌜ place + length (now words) ≤ pageSize ⌝ }
     ensures { λ r. ⌜ Wrote place (now (words .entry)) (now (page .entry)) (now (page .exit)) r ⌝ }
 {
-    copy_at(words, place, page)
+    put_bytes(words, place, page)
 }
 
 // A number in decimal.

@@ -1,20 +1,22 @@
 -- The answers of Route and Least stress, each from the tests that led to it: the tests of the definition are gone through in its order, and what the
 -- search answers is what the promise asks.
 -- Assumes nothing.
-use Prim.Native.Nat.{ℕ, _+_, _-_, _≤_, _<_}
+use Prim.Native.Nat.{ℕ, _+_, _-_, _*_, _≤_, _<_}
 use native.Mathlib.Omega.{arith}
-use mathlib.Core.Path.{_≡_, refl, sym, _∙_, subst}
-use mathlib.Core.Bool.{Bool, true, false, _&&_}
+use mathlib.Core.Path.{_≡_, refl, sym, _∙_, ap, subst}
+use mathlib.Core.Bool.{Bool, true, false, not, _&&_, _||_}
 use mathlib.Core.List.{List}
 use mathlib.Core.Logic.{_⊎_, inl, inr}
 use lib.Dec.{leb, ltb}
 use lib.ListN.{length}
-use borrow.Author.Tests.{le-leb, lt-leb, leb-true, ltb-true}
+use borrow.Author.Tests.{le-leb, lt-leb, leb-true, ltb-true, not-true, not-false}
 use Rattle.lists.proofs.Facts.{and-true, lt-or-ge}
 use Rattle.routes.specs.Streets.{Streets}
 use Rattle.routes.specs.Routes.{NoRoute}
 use Rattle.refusals.specs.declared.Refusal.the-variants.{NotANetwork, NoSuchNode, NoSuchTolerance, NoRoom}
-use Rattle.network.specs.Network.{nodesOf, isNetwork}
+use Rattle.refusals.specs.Numbers.{unless}
+use Rattle.network.specs.Network.{nodesOf, segmentsOf, isNetwork}
+use Rattle.network.specs.Steps.Corners.{cornersOf, Indexed}
 use Rattle.streets.specs.Runs.{runsOf}
 use Rattle.streets.specs.Bicycle.{bicycle}
 use Rattle.routes.specs.declared.Found.{Found as FoundRoute}
@@ -28,12 +30,13 @@ use Rattle.splicereel.specs.declared.least_stress.LeastAnswer.{LeastAnsw
 use Rattle.splicereel.specs.declared.least_stress.LeastAnswer.the-variants.{Refused, Nothing, Found}
 use Rattle.splicereel.specs.Finding.{nodesRefusal, fits, routeRefusal, leastStressRefusal}
 use Rattle.splicereel.specs.Promises.{Lent, lent, RoutePromise, LeastPromise, LeastFound}
-use Rattle.splicereel.specs.Steps.Calls.{answerOf, Rising}
+use Rattle.splicereel.specs.Steps.Calls.{Ready, answerOf, Rising}
+use Rattle.splicereel.proofs.Guards.{both-below, not-both-below, are-within, not-within}
 
 -- ---- room
-pub room-beyond : (runs place best previous buffer : ℕ) → buffer < place → false ≡ fits runs place best previous buffer
+pub room-beyond : (runs best previous buffer place : ℕ) → buffer < place → false ≡ fits runs best previous buffer place
 unfolding fits
-room-beyond runs place best previous buffer l = go (leb runs best) (leb runs previous)
+room-beyond runs best previous buffer place l = go (leb runs best) (leb runs previous)
   where
     go : (a b : Bool) → false ≡ (a && b && (leb place buffer && leb (place + runs) buffer))
     go true true = rw (lt-leb place buffer l)
@@ -51,77 +54,87 @@ same-test a b c d f g = go (lt-or-ge b a)
         above h (inr k) = absurd (omega (arith, g k))
     go (inr h) = le-leb a b h ∙ sym (le-leb c d (f h))
 
-pub room-from : (runs place best previous buffer : ℕ) → place ≤ buffer
-    → (leb runs best && leb runs previous && leb runs (buffer - place)) ≡ fits runs place best previous buffer
+pub room-from : (runs best previous buffer place : ℕ) → place ≤ buffer
+    → (leb runs best && leb runs previous && leb runs (buffer - place)) ≡ fits runs best previous buffer place
 unfolding fits
-room-from runs place best previous buffer l =
+room-from runs best previous buffer place l =
     rw (le-leb place buffer l, same-test runs (buffer - place) (place + runs) buffer (λ h. omega arith) (λ h. omega arith))
 
--- ---- the tests
-pub record Room (net : List ℕ) (place best previous buffer : ℕ) : Type 0 where
-  pub for-best : runsOf net ≤ best
-  pub for-previous : runsOf net ≤ previous
-  pub for-buffer : place + runsOf net ≤ buffer
+runs-of : (net : List ℕ) {segments : ℕ} → segments ≡ segmentsOf net → 2 * segments ≡ runsOf net
+runs-of net s = ap (λ (n : ℕ). 2 * n) s
 
-pub room : {net : List ℕ} {place best previous buffer : ℕ} (runs : ℕ) → runs ≡ runsOf net → fits runs place best previous buffer ≡ true
-    → Room net place best previous buffer
-unfolding fits
-room {net} {place} {best} {previous} {buffer} runs e h =
-    let p = and-true (leb runs best && leb runs previous) (leb place buffer && leb (place + runs) buffer) h in
-    let q = and-true (leb runs best) (leb runs previous) (p .0) in
-    let r = and-true (leb place buffer) (leb (place + runs) buffer) (p .1) in
-    record {
-      for-best = rw e at (leb-true runs best (q .0));
-      for-previous = rw e at (leb-true runs previous (q .1));
-      for-buffer = rw e at (leb-true (place + runs) buffer (r .1));
-    }
+-- ---- the guards, as the calls pass them one after the other
+module _ {net index : List ℕ} {from to place : ℕ} (before : Lent) {kept : Bool} (k : kept ≡ isNetwork net) (is : not kept ≡ false)
+    (ix : kept ≡ true → Indexed (cornersOf net) index) {nodes : ℕ} (n : nodes ≡ nodesOf net) (known : leb nodes from || leb nodes to ≡ false)
+    {segments : ℕ} (s : segments ≡ segmentsOf net) {room : Bool} (h : room ≡ fits (2 * segments) (length (before .best)) (length (before .previous)) (length (before .buffer)) place)
+  where
+    pub ready : not room ≡ false → Ready net index from to before place
+    unfolding fits
+    ready e =
+        let r = runs-of net s in
+        let runs = 2 * segments in
+        let two = and-true (ltb from nodes) (ltb to nodes) (both-below from to nodes known) in
+        let scratch = leb runs (length (before .best)) && leb runs (length (before .previous)) in
+        let buffer = leb place (length (before .buffer)) && leb (place + runs) (length (before .buffer)) in
+        let p = and-true scratch buffer (sym h ∙ not-false room e) in
+        let q = and-true (leb runs (length (before .best))) (leb runs (length (before .previous))) (p .0) in
+        let b = and-true (leb place (length (before .buffer))) (leb (place + runs) (length (before .buffer))) (p .1) in
+        record {
+          network = sym k ∙ not-false kept is;
+          indexed = ix (not-false kept is);
+          from-node = rw n at (ltb-true from nodes (two .0));
+          to-node = rw n at (ltb-true to nodes (two .1));
+          best-fits = rw r at (leb-true runs (length (before .best)) (q .0));
+          previous-fits = rw r at (leb-true runs (length (before .previous)) (q .1));
+          buffer-fits = rw r at (leb-true (place + runs) (length (before .buffer)) (b .1));
+        }
 
-pub nodes-below : (net : List ℕ) {from to nodes : ℕ} → nodes ≡ nodesOf net → ltb from nodes && ltb to nodes ≡ true
-    → (from < nodesOf net) × (to < nodesOf net)
-nodes-below net {from} {to} {nodes} e h =
-    let p = and-true (ltb from nodes) (ltb to nodes) h in
-    (rw e at (ltb-true from nodes (p .0)), rw e at (ltb-true to nodes (p .1)))
-
-pub tolerance-within : (t : ℕ) → leb 1 t && leb t 4 ≡ true → (1 ≤ t) × (t ≤ 4)
-tolerance-within t h =
-    let p = and-true (leb 1 t) (leb t 4) h in
+pub tolerance-within : (t : ℕ) → ltb t 1 || ltb 4 t ≡ false → (1 ≤ t) × (t ≤ 4)
+tolerance-within t calm =
+    let p = and-true (leb 1 t) (leb t 4) (are-within 1 4 t calm) in
     (leb-true 1 t (p .0), leb-true t 4 (p .1))
 
 -- ---- Route
-module _ (net : List ℕ) (from to t place : ℕ) (before : Lent) where
-  pub route-no-network : isNetwork net ≡ false → RoutePromise net from to t place before before (Refused NotANetwork)
+module _ (net : List ℕ) (from to t : ℕ) (before : Lent) (place : ℕ) {kept : Bool} (k : kept ≡ isNetwork net) where
+  pub route-no-network : not kept ≡ true → RoutePromise net from to t before before place (Refused NotANetwork)
   unfolding routeRefusal nodesRefusal
-  route-no-network is = record { refusal = rw is; holds = refl }
+  route-no-network e = record { refusal = rw (← k, not-true kept e); holds = refl }
 
-  module _ (is : isNetwork net ≡ true) {nodes : ℕ} (n : nodes ≡ nodesOf net) where
-    pub route-no-node : ltb from nodes && ltb to nodes ≡ false → RoutePromise net from to t place before before (Refused NoSuchNode)
+  module _ (is : not kept ≡ false) {nodes : ℕ} (n : nodes ≡ nodesOf net) where
+    pub route-no-node : leb nodes from || leb nodes to ≡ true → RoutePromise net from to t before before place (Refused NoSuchNode)
     unfolding routeRefusal nodesRefusal
-    route-no-node e = record { refusal = rw (is, ← n, e); holds = refl }
+    route-no-node e = record { refusal = rw (← k, not-false kept is, ← n, not-both-below from to nodes e); holds = refl }
 
-    module _ (known : ltb from nodes && ltb to nodes ≡ true) where
-      pub route-no-tolerance : leb 1 t && leb t 4 ≡ false → RoutePromise net from to t place before before (Refused NoSuchTolerance)
+    module _ (known : leb nodes from || leb nodes to ≡ false) where
+      pub route-no-tolerance : ltb t 1 || ltb 4 t ≡ true → RoutePromise net from to t before before place (Refused NoSuchTolerance)
       unfolding routeRefusal nodesRefusal
-      route-no-tolerance e = record { refusal = rw (is, ← n, known, e); holds = refl }
+      route-no-tolerance e =
+          record { refusal = rw (← k, not-false kept is, ← n, both-below from to nodes known, not-within 1 4 t e); holds = refl }
 
-      module _ (calm : leb 1 t && leb t 4 ≡ true) {runs : ℕ} (r : runs ≡ runsOf net) where
-        pub route-no-room : fits runs place (length (before .best)) (length (before .previous)) (length (before .buffer)) ≡ false
-            → RoutePromise net from to t place before before (Refused NoRoom)
-        unfolding routeRefusal nodesRefusal
-        route-no-room e = record { refusal = rw (is, ← n, known, calm, ← r, e); holds = refl }
+      module _ (calm : ltb t 1 || ltb 4 t ≡ false) {segments : ℕ} (s : segments ≡ segmentsOf net) {room : Bool} (h : room ≡ fits (2 * segments) (length (before .best)) (length (before .previous)) (length (before .buffer)) place)
+        where
+          -- what is left to test is whether there is room
+          last-test : routeRefusal net from to t (length (before .best)) (length (before .previous)) (length (before .buffer)) place ≡ unless room NoRoom 0
+          unfolding routeRefusal nodesRefusal
+          last-test = rw (← k, not-false kept is, ← n, both-below from to nodes known, are-within 1 4 t calm, ← runs-of net s, ← h)
 
-        answers : fits runs place (length (before .best)) (length (before .previous)) (length (before .buffer)) ≡ true
-            → (after : Lent) (finding : Finding) → Answered (bicycle net) t from to place (before .buffer) (after .buffer) finding
-            → RoutePromise net from to t place before after (answerOf finding)
-        unfolding routeRefusal nodesRefusal
-        answers e after Nothing A = record { refusal = rw (is, ← n, known, calm, ← r, e); holds = (A .1, A .0) }
-        answers e after (Found route) A = record { refusal = rw (is, ← n, known, calm, ← r, e); holds = A }
+          pub route-no-room : not room ≡ true → RoutePromise net from to t before before place (Refused NoRoom)
+          route-no-room e = record { refusal = sym (last-test ∙ rw (not-true room e)); holds = refl }
 
-        pub route-answers : fits runs place (length (before .best)) (length (before .previous)) (length (before .buffer)) ≡ true
-            → {after : Lent} (finding : Finding) {answer : RouteAnswer} → answer ≡ answerOf finding
-            → Answered (bicycle net) t from to place (before .buffer) (after .buffer) finding
-            → RoutePromise net from to t place before after answer
-        route-answers e {after} finding {answer} same A =
-            subst (λ (a : RouteAnswer). RoutePromise net from to t place before after a) (sym same) (answers e after finding A)
+          module _ (e : not room ≡ false) where
+            unrefused : routeRefusal net from to t (length (before .best)) (length (before .previous)) (length (before .buffer)) place ≡ 0
+            unrefused = last-test ∙ rw (not-false room e)
+
+            answers : (after : Lent) (finding : Finding) → Answered (bicycle net) t from to place (before .buffer) (after .buffer) finding
+                → RoutePromise net from to t before after place (answerOf finding)
+            answers after Nothing A = record { refusal = sym unrefused; holds = (A .1, A .0) }
+            answers after (Found route) A = record { refusal = sym unrefused; holds = A }
+
+            pub route-answers : {after : Lent} (finding : Finding) {answer : RouteAnswer} → answer ≡ answerOf finding
+                → Answered (bicycle net) t from to place (before .buffer) (after .buffer) finding
+                → RoutePromise net from to t before after place answer
+            route-answers {after} finding {answer} same A =
+                subst (λ (a : RouteAnswer). RoutePromise net from to t before after place a) (sym same) (answers after finding A)
 
 -- ---- Least stress
 -- the tolerances below t have been tried: none has a route, and the buffer is as it came
@@ -160,26 +173,32 @@ module _ {g : Streets} {a b t : ℕ} {before after : Lent} (T : Tried g a b t be
 pub tried-all : {g : Streets} {a b t : ℕ} {before after : Lent} → Tried g a b t before after → 5 ≤ t → NoRoute g 4 a b × (after .buffer ≡ before .buffer)
 tried-all T l = (T .none .none 4 (omega arith) (omega arith), T .untouched)
 
-module _ (net : List ℕ) (from to place : ℕ) (before : Lent) where
-  pub least-no-network : isNetwork net ≡ false → LeastPromise net from to place before before (Refused NotANetwork)
+module _ (net : List ℕ) (from to : ℕ) (before : Lent) (place : ℕ) {kept : Bool} (k : kept ≡ isNetwork net) where
+  pub least-no-network : not kept ≡ true → LeastPromise net from to before before place (Refused NotANetwork)
   unfolding leastStressRefusal nodesRefusal
-  least-no-network is = record { refusal = rw is; holds = refl }
+  least-no-network e = record { refusal = rw (← k, not-true kept e); holds = refl }
 
-  module _ (is : isNetwork net ≡ true) {nodes : ℕ} (n : nodes ≡ nodesOf net) where
-    pub least-no-node : ltb from nodes && ltb to nodes ≡ false → LeastPromise net from to place before before (Refused NoSuchNode)
+  module _ (is : not kept ≡ false) {nodes : ℕ} (n : nodes ≡ nodesOf net) where
+    pub least-no-node : leb nodes from || leb nodes to ≡ true → LeastPromise net from to before before place (Refused NoSuchNode)
     unfolding leastStressRefusal nodesRefusal
-    least-no-node e = record { refusal = rw (is, ← n, e); holds = refl }
+    least-no-node e = record { refusal = rw (← k, not-false kept is, ← n, not-both-below from to nodes e); holds = refl }
 
-    module _ (known : ltb from nodes && ltb to nodes ≡ true) {runs : ℕ} (r : runs ≡ runsOf net) where
-      pub least-no-room : fits runs place (length (before .best)) (length (before .previous)) (length (before .buffer)) ≡ false
-          → LeastPromise net from to place before before (Refused NoRoom)
-      unfolding leastStressRefusal nodesRefusal
-      least-no-room e = record { refusal = rw (is, ← n, known, ← r, e); holds = refl }
+    module _ (known : leb nodes from || leb nodes to ≡ false) {segments : ℕ} (s : segments ≡ segmentsOf net) {room : Bool}
+        (h : room ≡ fits (2 * segments) (length (before .best)) (length (before .previous)) (length (before .buffer)) place)
+      where
+        least-last-test : leastStressRefusal net from to (length (before .best)) (length (before .previous)) (length (before .buffer)) place ≡ unless room NoRoom 0
+        unfolding leastStressRefusal nodesRefusal
+        least-last-test = rw (← k, not-false kept is, ← n, both-below from to nodes known, ← runs-of net s, ← h)
 
-      pub least-answers : fits runs place (length (before .best)) (length (before .previous)) (length (before .buffer)) ≡ true
-          → {after : Lent} (answer : LeastAnswer) → Rising (bicycle net) from to place (before .buffer) (after .buffer) answer
-          → LeastPromise net from to place before after answer
-      unfolding leastStressRefusal nodesRefusal
-      least-answers e (Refused why) A = absurd A
-      least-answers e Nothing A = record { refusal = rw (is, ← n, known, ← r, e); holds = A }
-      least-answers e (Found route tolerance) A = record { refusal = rw (is, ← n, known, ← r, e); holds = A }
+        pub least-no-room : not room ≡ true → LeastPromise net from to before before place (Refused NoRoom)
+        least-no-room e = record { refusal = sym (least-last-test ∙ rw (not-true room e)); holds = refl }
+
+        module _ (e : not room ≡ false) where
+          least-unrefused : leastStressRefusal net from to (length (before .best)) (length (before .previous)) (length (before .buffer)) place ≡ 0
+          least-unrefused = least-last-test ∙ rw (not-false room e)
+
+          pub least-answers : {after : Lent} (answer : LeastAnswer) → Rising (bicycle net) from to place (before .buffer) (after .buffer) answer
+              → LeastPromise net from to before after place answer
+          least-answers (Refused why) A = absurd A
+          least-answers Nothing A = record { refusal = sym least-unrefused; holds = A }
+          least-answers (Found route tolerance) A = record { refusal = sym least-unrefused; holds = A }

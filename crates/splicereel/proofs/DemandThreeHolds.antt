@@ -68,12 +68,12 @@ module _ {A : Type 0} {told : Told A} {N : Type 0} {F : A → Type 0} where
             absurd (never (s .0) (s .1))
 
 -- ---- a question that is in order is refused by no test
-module _ {net : List ℕ} {from to place : ℕ} {before : Lent} (I : InOrder net from to place before) where
+module _ {net : List ℕ} {from to place : ℕ} {before : Lent} (I : InOrder net from to before place) where
   asked : (later : ℕ) → nodesRefusal net from to later ≡ later
   unfolding nodesRefusal
   asked later = rw (I .accepted, lt-ltb from (nodesOf net) (I .from-node), lt-ltb to (nodesOf net) (I .to-node))
 
-  room : fits (runsOf net) place (length (before .best)) (length (before .previous)) (length (before .buffer)) ≡ true
+  room : fits (runsOf net) (length (before .best)) (length (before .previous)) (length (before .buffer)) place ≡ true
   unfolding fits
   room =
       rw (
@@ -84,11 +84,11 @@ module _ {net : List ℕ} {from to place : ℕ} {before : Lent} (I : InOrder net
       )
 
   route-unrefused : {t : ℕ} → 1 ≤ t → t ≤ 4
-      → routeRefusal net from to t place (length (before .best)) (length (before .previous)) (length (before .buffer)) ≡ 0
+      → routeRefusal net from to t (length (before .best)) (length (before .previous)) (length (before .buffer)) place ≡ 0
   unfolding routeRefusal
   route-unrefused {t} low high = asked _ ∙ rw (le-leb 1 t low, le-leb t 4 high, room)
 
-  least-unrefused : leastStressRefusal net from to place (length (before .best)) (length (before .previous)) (length (before .buffer)) ≡ 0
+  least-unrefused : leastStressRefusal net from to (length (before .best)) (length (before .previous)) (length (before .buffer)) place ≡ 0
   unfolding leastStressRefusal
   least-unrefused = asked _ ∙ rw room
 

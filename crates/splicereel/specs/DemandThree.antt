@@ -21,7 +21,7 @@ use Rattle.splicereel.specs.Promises.{Lent, Told, none, found, LeastRout
 
 -- ---- For every accepted network, every two nodes (also the same twice), any lent buffers whatever they hold:
 -- the question is in order, and what is lent has room for two numbers for each segment, the buffer from the place on.
-pub record InOrder (net : List ℕ) (from to place : ℕ) (before : Lent) : Type 0 where
+pub record InOrder (net : List ℕ) (from to : ℕ) (before : Lent) (place : ℕ) : Type 0 where
   pub accepted : isNetwork net ≡ true
   pub from-node : from < nodesOf net
   pub to-node : to < nodesOf net
@@ -34,20 +34,20 @@ pub record RouteCall (net : List ℕ) (from to t : ℕ) : Type 0 where
   pub place : ℕ
   pub before : Lent
   pub after : Lent
-  pub in-order : InOrder net from to place before
+  pub in-order : InOrder net from to before place
   pub low : 1 ≤ t
   pub high : t ≤ 4
   pub answer : RouteAnswer
-  pub returned : RoutePromise net from to t place before after answer
+  pub returned : RoutePromise net from to t before after place answer
 
 -- A call of Least stress.
 pub record LeastCall (net : List ℕ) (from to : ℕ) : Type 0 where
   pub place : ℕ
   pub before : Lent
   pub after : Lent
-  pub in-order : InOrder net from to place before
+  pub in-order : InOrder net from to before place
   pub answer : LeastAnswer
-  pub returned : LeastPromise net from to place before after answer
+  pub returned : LeastPromise net from to before after place answer
 
 -- ---- What is said of an answer
 -- Something was found.

@@ -52,11 +52,11 @@ RouteHolds g t a b place before after (refused number) = after ≡ before
 RouteHolds g t a b place before after none = NoRoute g t a b × (after .buffer ≡ before .buffer)
 RouteHolds g t a b place before after (found route) = Written g t a b place (before .buffer) (after .buffer) route
 
-pub record RoutePromise (net : List ℕ) (from to t place : ℕ) (before after : Lent) (answer : RouteAnswer) : Type 0 where
+pub record RoutePromise (net : List ℕ) (from to t : ℕ) (before after : Lent) (place : ℕ) (answer : RouteAnswer) : Type 0 where
   -- which refusal, by the tests in their order; 0 where none
   pub refusal :
       refusalIn (toldRoute answer)
-      ≡ routeRefusal net from to t place (length (before .best)) (length (before .previous)) (length (before .buffer))
+      ≡ routeRefusal net from to t (length (before .best)) (length (before .previous)) (length (before .buffer)) place
   -- what holds of the answer
   pub holds : RouteHolds (bicycle net) t from to place before after (toldRoute answer)
 
@@ -83,8 +83,8 @@ LeastHolds g a b place before after (refused number) = after ≡ before
 LeastHolds g a b place before after none = NoRoute g 4 a b × (after .buffer ≡ before .buffer)
 LeastHolds g a b place before after (found least) = LeastFound g a b place (before .buffer) (after .buffer) least
 
-pub record LeastPromise (net : List ℕ) (from to place : ℕ) (before after : Lent) (answer : LeastAnswer) : Type 0 where
+pub record LeastPromise (net : List ℕ) (from to : ℕ) (before after : Lent) (place : ℕ) (answer : LeastAnswer) : Type 0 where
   pub refusal :
       refusalIn (toldLeast answer)
-      ≡ leastStressRefusal net from to place (length (before .best)) (length (before .previous)) (length (before .buffer))
+      ≡ leastStressRefusal net from to (length (before .best)) (length (before .previous)) (length (before .buffer)) place
   pub holds : LeastHolds (bicycle net) from to place before after (toldLeast answer)

@@ -1,14 +1,7 @@
 // Least stress: the smallest tolerance at which a route exists, and a shortest route within it.
-ghost use mathlib.Core.Path.{_≡_};
-ghost use mathlib.Core.Bool.{true};
-ghost use Prim.Native.Nat.{_+_, _≤_, _<_};
-ghost use lib.ListN.{length};
-ghost use Rattle.network.specs.Network.{nodesOf, isNetwork};
-ghost use Rattle.network.specs.Steps.Corners.{cornersOf, Indexed};
-ghost use Rattle.streets.specs.Runs.{runsOf};
 ghost use Rattle.streets.specs.Bicycle.{bicycle};
 ghost use Rattle.splicereel.specs.Promises.{lent, LeastPromise};
-ghost use Rattle.splicereel.specs.Steps.Calls.{Rising};
+ghost use Rattle.splicereel.specs.Steps.Calls.{Ready, Rising};
 use crate::route::has_room;
 use network::corners::no_corners;
 use network::kept::is_network;
@@ -36,21 +29,23 @@ pub fn least_stress(
     buffer: &mut [u16],
     place: usize,
 ) -> LeastAnswer
-    ensures { λ r. ⌜ LeastPromise (now (net .entry)) from to place (lent (now (best .entry)) (now (previous .entry)) (now (buffer .entry))) (lent (now (best .exit)) (now (previous .exit)) (now (buffer .exit))) r ⌝ }
+    ensures { λ r. ⌜ LeastPromise (now (net .entry)) from to
+        (lent (now (best .entry)) (now (previous .entry)) (now (buffer .entry)))
+        (lent (now (best .exit)) (now (previous .exit)) (now (buffer .exit))) place r ⌝ }
 {
     let mut index = no_corners();
-    if is_network(net, &mut index) {
-        let nodes = nodes_of(net);
-        if (from < nodes) & (to < nodes) {
-            let runs = 2 * segments_of(net);
-            if has_room(runs, place, best.len(), previous.len(), buffer.len()) {
-                return rising(net, &index, from, to, best, previous, buffer, place);
-            }
-            return LeastAnswer::Refused(Refusal::NoRoom);
-        }
+    if !is_network(net, &mut index) {
+        return LeastAnswer::Refused(Refusal::NotANetwork);
+    }
+    let nodes = nodes_of(net);
+    if (from >= nodes) | (to >= nodes) {
         return LeastAnswer::Refused(Refusal::NoSuchNode);
     }
-    LeastAnswer::Refused(Refusal::NotANetwork)
+    let runs = 2 * segments_of(net);
+    if !has_room(runs, best.len(), previous.len(), buffer.len(), place) {
+        return LeastAnswer::Refused(Refusal::NoRoom);
+    }
+    rising(net, &index, from, to, best, previous, buffer, place)
 }
 
 // Tries the tolerances from 1 on.
@@ -64,7 +59,7 @@ fn rising(
     buffer: &mut [u16],
     place: usize,
 ) -> LeastAnswer
-    requires { ⌜ (isNetwork (now net) ≡ true) × Indexed (cornersOf (now net)) (now index) × (from < nodesOf (now net)) × (to < nodesOf (now net)) × (runsOf (now net) ≤ length (now best)) × (runsOf (now net) ≤ length (now previous)) × (place + runsOf (now net) ≤ length (now buffer)) ⌝ }
+    requires { ⌜ Ready (now net) (now index) from to (lent (now best) (now previous) (now buffer)) place ⌝ }
     ensures { λ r. ⌜ Rising (bicycle (now (net .entry))) from to place (now (buffer .entry)) (now (buffer .exit)) r ⌝ }
 {
     let mut t = 1;

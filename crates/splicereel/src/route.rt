@@ -20,13 +20,13 @@ pub enum RouteAnswer {
 }
 
 // The lent slices have room for a number for each run, the buffer from the place on.
-pub fn has_room(runs: usize, place: usize, best: usize, previous: usize, buffer: usize) -> bool
-    ensures { λ r. ⌜ r ≡ fits runs place best previous buffer ⌝ }
+pub fn has_room(runs: usize, best: usize, previous: usize, buffer: usize, place: usize) -> bool
+    ensures { λ r. ⌜ r ≡ fits runs best previous buffer place ⌝ }
 {
-    if place <= buffer {
-        return (runs <= best) & (runs <= previous) & (runs <= buffer - place);
+    if place > buffer {
+        return false;
     }
-    false
+    (runs <= best) & (runs <= previous) & (runs <= buffer - place)
 }
 
 // Writes the runs of a shortest route within the tolerance into the buffer from the place on, and gives their count, the length in feet and the level.
@@ -40,34 +40,37 @@ pub fn route(
     buffer: &mut [u16],
     place: usize,
 ) -> RouteAnswer
-    ensures { λ r. ⌜ RoutePromise (now (net .entry)) from to tolerance place (lent (now (best .entry)) (now (previous .entry)) (now (buffer .entry))) (lent (now (best .exit)) (now (previous .exit)) (now (buffer .exit))) r ⌝ }
+    ensures { λ r. ⌜ RoutePromise (now (net .entry)) from to tolerance
+        (lent (now (best .entry)) (now (previous .entry)) (now (buffer .entry)))
+        (lent (now (best .exit)) (now (previous .exit)) (now (buffer .exit))) place r ⌝ }
 {
     let mut index = no_corners();
-    if is_network(net, &mut index) {
-        let nodes = nodes_of(net);
-        if (from < nodes) & (to < nodes) {
-            if (1 <= tolerance) & (tolerance <= 4) {
-                let runs = 2 * segments_of(net);
-                if has_room(runs, place, best.len(), previous.len(), buffer.len()) {
-                    return answered(find(
-                        net,
-                        &index,
-                        from,
-                        to,
-                        tolerance,
-                        best,
-                        previous,
-                        buffer,
-                        place,
-                    ));
-                }
-                return RouteAnswer::Refused(Refusal::NoRoom);
-            }
-            return RouteAnswer::Refused(Refusal::NoSuchTolerance);
-        }
+    if !is_network(net, &mut index) {
+        return RouteAnswer::Refused(Refusal::NotANetwork);
+    }
+    let nodes = nodes_of(net);
+    if (from >= nodes) | (to >= nodes) {
         return RouteAnswer::Refused(Refusal::NoSuchNode);
     }
-    RouteAnswer::Refused(Refusal::NotANetwork)
+    if (tolerance < 1) | (tolerance > 4) {
+        return RouteAnswer::Refused(Refusal::NoSuchTolerance);
+    }
+    let runs = 2 * segments_of(net);
+    if !has_room(runs, best.len(), previous.len(), buffer.len(), place) {
+        return RouteAnswer::Refused(Refusal::NoRoom);
+    }
+    let finding = find(
+        net,
+        &index,
+        from,
+        to,
+        tolerance,
+        best,
+        previous,
+        buffer,
+        place,
+    );
+    answered(finding)
 }
 
 fn answered(finding: Finding) -> RouteAnswer

@@ -1,4 +1,4 @@
--- `splicereel::output::put_byte` meets its contract: a store is the writing of one byte.
+-- `printing::put_byte` meets its contract: a store is the writing of one byte.
 -- Assumes nothing.
 use borrow.Author.Needs.{needs}
 use Rattle.printing.proofs.Writing.{wrote-byte}

@@ -1,4 +1,5 @@
--- Answers whose numbers fit the 32 bits of an entry of `told`, and what is told of them.
+-- What the functions that tell an answer to C ask of it, numbers that fit the 32 bits of an entry of `told`, and the reply that each of them gives. What
+-- the exported functions promise stands in specs/Replies.antt.
 -- Assumes nothing.
 use Prim.Native.Nat.{ℕ, _<_}
 use Rattle.text.specs.declared.ReadAnswer.{ReadAnswer}

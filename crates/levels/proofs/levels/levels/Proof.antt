@@ -1,4 +1,4 @@
--- `splicereel::levels::levels` meets its contract: a refusal prints its line; an acceptance has its network at the front of the room, and prints its lines.
+-- `levels::levels::levels` meets its contract: a refusal prints its line; an acceptance has its network at the front of the room, and prints its lines.
 -- Assumes nothing.
 use mathlib.Core.Path.{sym}
 use lib.Seq.{length-take-le}

@@ -1,7 +1,6 @@
--- `splicereel::levels::put_level` meets its contract: its three fields stand one after the other.
+-- `levels::levels::put_level` meets its contract: its three fields stand one after the other.
 -- Assumes nothing.
-use Rattle.printing.proofs.Writing.{field-length}
-use Rattle.levels.proofs.Printing.{line-wrote}
+use Rattle.levels.proofs.Printing.{field-length, line-wrote}
 use native.Mathlib.Omega.{arith}
 use borrow.Author.Needs.{needs}
 use Rattle.levels.proofs.levels.put_level.Statement.{statement}

@@ -1,4 +1,4 @@
--- `splicereel::levels::put_levels` meets its contract: the lines of the segments passed stand at the front, at most 63 bytes each.
+-- `levels::levels::put_levels` meets its contract: the lines of the segments passed stand at the front, at most 63 bytes each.
 -- Assumes nothing.
 use Rattle.levels.proofs.Printing.{Printed, printed-none, printed-more}
 use Prim.Native.Nat.{_-_, _≤_}

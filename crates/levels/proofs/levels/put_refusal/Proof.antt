@@ -1,8 +1,7 @@
--- `splicereel::levels::put_refusal` meets its contract: the word, the number and the line stand one after the other.
+-- `levels::levels::put_refusal` meets its contract: the word, the number and the line stand one after the other.
 -- Assumes nothing.
-use Rattle.printing.proofs.Writing.{field-length}
 use Rattle.refusals.specs.Numbers.{numberOf}
-use Rattle.levels.proofs.Printing.{refusal-wrote}
+use Rattle.levels.proofs.Printing.{field-length, refusal-wrote}
 use native.Mathlib.Omega.{arith}
 use borrow.Author.Needs.{needs}
 use Rattle.levels.proofs.levels.put_refusal.Statement.{statement}

@@ -1,4 +1,4 @@
--- `route::text::page` meets its contract: an array of spaces has its length.
+-- `route::page::page` meets its contract: an array of spaces has its length.
 -- Assumes nothing.
 use Prim.Native.Nat.{ℕ}
 use lib.ListN.{length-replicate}

@@ -1,9 +1,9 @@
--- `route::text::put_number` meets its contract: the digits that io::decimal makes are put on the page.
+-- `route::page::put_number` meets its contract: the digits that io::decimal makes are put on the page.
 -- Assumes nothing.
 use native.Mathlib.Omega.{arith}
 use lib.Seq.{length-take-le}
 use borrow.Author.Needs.{needs}
-use Rattle.route.proofs.Digits.{at-most-20}
+use Rattle.printing.proofs.Decimal.{at-most-20}
 use Rattle.route.proofs.page.put_number.Statement.{statement}
 use Rattle.route.proofs.page.put_number.Tie as tie
 

@@ -1,9 +1,9 @@
--- `route::text::put_right` meets its contract: blanks and digits together are at most 20.
+-- `route::page::put_right` meets its contract: blanks and digits together are at most 20.
 -- Assumes nothing.
 use native.Mathlib.Omega.{arith}
 use lib.Seq.{length-take-le}
 use borrow.Author.Needs.{needs}
-use Rattle.route.proofs.Digits.{at-most-20}
+use Rattle.printing.proofs.Decimal.{at-most-20}
 use Rattle.route.proofs.page.put_right.Statement.{statement}
 use Rattle.route.proofs.page.put_right.Tie as tie
 

@@ -1,4 +1,4 @@
--- `route::text::write` meets its contract: the part that is written lies inside the page.
+-- `route::page::write` meets its contract: the part that is written lies inside the page.
 -- Assumes nothing.
 use mathlib.Core.Path.{sym}
 use lib.Seq.{length-take-le}
