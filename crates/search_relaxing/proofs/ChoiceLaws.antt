@@ -3,7 +3,7 @@
 -- nothing is said of the node, each other leg is offered; where one leg is to find, an edge to a run without a label leads by that one. After the legs are
 -- offered, every edge is relaxed, and the number that is noted is right.
 -- Assumes nothing.
-use mathlib.Core.Path.{_≡_, refl, sym, _∙_, ap, subst}
+use mathlib.Core.Path.{_≡_, refl, sym, _∙_, ap}
 use mathlib.Core.Bool.{Bool, true, false, cond, true≢false}
 use mathlib.Core.List.{List}
 use Prim.Native.Nat.{ℕ, _+_, _*_, _-_, _%_, _≤_, _<_}

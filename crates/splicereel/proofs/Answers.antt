@@ -22,7 +22,7 @@ use Rattle.streets.specs.Bicycle.{bicycle}
 use Rattle.routes.specs.declared.Found.{Found as FoundRoute}
 use Rattle.search_routes.specs.declared.find.Finding.{Finding}
 use Rattle.search_routes.specs.declared.find.Finding.the-variants.{Nothing, Found}
-use Rattle.search_routes.specs.Steps.Answered.{Answered}
+use Rattle.search_routes.specs.Steps.Answered.{Question, Rooms, Answered}
 use Rattle.search_routes.proofs.Tolerance.{NoneUnder, none-under-one, none-under-more, least-written}
 use Rattle.splicereel.specs.declared.route.RouteAnswer.{RouteAnswer}
 use Rattle.splicereel.specs.declared.route.RouteAnswer.the-variants.{Refused}
@@ -30,7 +30,7 @@ use Rattle.splicereel.specs.declared.least_stress.LeastAnswer.{LeastAnsw
 use Rattle.splicereel.specs.declared.least_stress.LeastAnswer.the-variants.{Refused, Nothing, Found}
 use Rattle.splicereel.specs.Finding.{nodesRefusal, fits, routeRefusal, leastStressRefusal}
 use Rattle.splicereel.specs.Promises.{Lent, lent, RoutePromise, LeastPromise, LeastFound}
-use Rattle.splicereel.specs.Steps.Calls.{Ready, answerOf, Rising}
+use Rattle.splicereel.specs.Steps.Calls.{answerOf, Rising}
 use Rattle.splicereel.proofs.Guards.{both-below, not-both-below, are-within, not-within}
 
 -- ---- room
@@ -68,9 +68,12 @@ module _ {net index : List ℕ} {from to place : ℕ} (before : Lent) {kept : Bo
     (ix : kept ≡ true → Indexed (cornersOf net) index) {nodes : ℕ} (n : nodes ≡ nodesOf net) (known : leb nodes from || leb nodes to ≡ false)
     {segments : ℕ} (s : segments ≡ segmentsOf net) {room : Bool} (h : room ≡ fits (2 * segments) (length (before .best)) (length (before .previous)) (length (before .buffer)) place)
   where
-    pub ready : not room ≡ false → Ready net index from to before place
+    -- what the search asks: the tests are passed
+    pub in-order : (t : ℕ) → 1 ≤ t → not room ≡ false
+        → Question net index (record { runs = 2 * segments; tolerance = t; from = from }) to
+        × Rooms (2 * segments) (before .best) (before .previous) (before .buffer) place
     unfolding fits
-    ready e =
+    in-order t low e =
         let r = runs-of net s in
         let runs = 2 * segments in
         let two = and-true (ltb from nodes) (ltb to nodes) (both-below from to nodes known) in
@@ -78,16 +81,26 @@ module _ {net index : List ℕ} {from to place : ℕ} (before : Lent) {kept : Bo
         let buffer = leb place (length (before .buffer)) && leb (place + runs) (length (before .buffer)) in
         let p = and-true scratch buffer (sym h ∙ not-false room e) in
         let q = and-true (leb runs (length (before .best))) (leb runs (length (before .previous))) (p .0) in
-        let b = and-true (leb place (length (before .buffer))) (leb (place + runs) (length (before .buffer))) (p .1) in
-        record {
-          network = sym k ∙ not-false kept is;
-          indexed = ix (not-false kept is);
-          from-node = rw n at (ltb-true from nodes (two .0));
-          to-node = rw n at (ltb-true to nodes (two .1));
-          best-fits = rw r at (leb-true runs (length (before .best)) (q .0));
-          previous-fits = rw r at (leb-true runs (length (before .previous)) (q .1));
-          buffer-fits = rw r at (leb-true (place + runs) (length (before .buffer)) (b .1));
-        }
+        let b = and-true (leb place (length (before .buffer))) (leb (place + runs) (length (before .buffer))) (p .1) in (
+          record {
+            ready =
+                record {
+                  town = record { network = sym k ∙ not-false kept is; count = r };
+                  indexed = ix (not-false kept is);
+                  from-node = rw n at (ltb-true from nodes (two .0));
+                };
+            to-node = rw n at (ltb-true to nodes (two .1));
+            low = low;
+          },
+          record {
+            scratch =
+                record {
+                  best-fits = leb-true runs (length (before .best)) (q .0);
+                  previous-fits = leb-true runs (length (before .previous)) (q .1);
+                };
+            buffer-fits = leb-true (place + runs) (length (before .buffer)) (b .1);
+          },
+        )
 
 pub tolerance-within : (t : ℕ) → ltb t 1 || ltb 4 t ≡ false → (1 ≤ t) × (t ≤ 4)
 tolerance-within t calm =

@@ -1,12 +1,14 @@
 // Least stress: the smallest tolerance at which a route exists, and a shortest route within it.
 ghost use Rattle.streets.specs.Bicycle.{bicycle};
+ghost use Rattle.search_routes.specs.Steps.Answered.{Question, Rooms};
 ghost use Rattle.splicereel.specs.Promises.{lent, LeastPromise};
-ghost use Rattle.splicereel.specs.Steps.Calls.{Ready, Rising};
+ghost use Rattle.splicereel.specs.Steps.Calls.{Rising};
 use crate::route::has_room;
 use network::corners::no_corners;
 use network::kept::is_network;
 use refusals::Refusal;
 use routes::Found;
+use search_relaxing::Ask;
 use search_routes::find::Finding;
 use search_routes::find::find;
 use streets::runs::nodes_of;
@@ -45,30 +47,40 @@ pub fn least_stress(
     if !has_room(runs, best.len(), previous.len(), buffer.len(), place) {
         return LeastAnswer::Refused(Refusal::NoRoom);
     }
-    rising(net, &index, from, to, best, previous, buffer, place)
+    let first = Ask {
+        runs,
+        tolerance: 1,
+        from,
+    };
+    rising(net, &index, first, to, best, previous, buffer, place)
 }
 
-// Tries the tolerances from 1 on.
+// Asks the same at the tolerances from 1 on.
 fn rising(
     net: &[u8],
     index: &[u16; 8000],
-    from: usize,
+    ask: Ask,
     to: usize,
     best: &mut [u32],
     previous: &mut [u32],
     buffer: &mut [u16],
     place: usize,
 ) -> LeastAnswer
-    requires { ⌜ Ready (now net) (now index) from to (lent (now best) (now previous) (now buffer)) place ⌝ }
-    ensures { λ r. ⌜ Rising (bicycle (now (net .entry))) from to place (now (buffer .entry)) (now (buffer .exit)) r ⌝ }
+    requires { ⌜ Question (now net) (now index) ask to × Rooms (ask .runs) (now best) (now previous) (now buffer) place ⌝ }
+    ensures { λ r. ⌜ Rising (bicycle (now (net .entry))) (ask .from) to place (now (buffer .entry)) (now (buffer .exit)) r ⌝ }
 {
-    let mut t = 1;
+    let mut t: u8 = 1;
     while t < 5 {
-        let finding = find(net, index, from, to, t, best, previous, buffer, place);
+        let asked = Ask {
+            runs: ask.runs,
+            tolerance: t,
+            from: ask.from,
+        };
+        let finding = find(net, index, asked, to, best, previous, buffer, place);
         if let Finding::Found(found) = finding {
             return LeastAnswer::Found {
                 found,
-                tolerance: t,
+                tolerance: t as usize,
             };
         }
         t += 1;

@@ -7,6 +7,7 @@ use network::corners::no_corners;
 use network::kept::is_network;
 use refusals::Refusal;
 use routes::Found;
+use search_relaxing::Ask;
 use search_routes::find::Finding;
 use search_routes::find::find;
 use streets::runs::nodes_of;
@@ -59,18 +60,12 @@ pub fn route(
     if !has_room(runs, best.len(), previous.len(), buffer.len(), place) {
         return RouteAnswer::Refused(Refusal::NoRoom);
     }
-    let finding = find(
-        net,
-        &index,
+    let ask = Ask {
+        runs,
+        tolerance: tolerance as u8,
         from,
-        to,
-        tolerance,
-        best,
-        previous,
-        buffer,
-        place,
-    );
-    answered(finding)
+    };
+    answered(find(net, &index, ask, to, best, previous, buffer, place))
 }
 
 fn answered(finding: Finding) -> RouteAnswer

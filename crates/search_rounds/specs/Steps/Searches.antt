@@ -15,7 +15,7 @@ use Rattle.search_labels.specs.Steps.Queued.{noneSpent, Queued}
 use Rattle.search_labels.specs.Steps.Search.{Due, Round}
 use Rattle.search_relaxing.specs.declared.Ask.{Ask}
 use Rattle.search_relaxing.specs.Steps.Town.{mostRuns, mostRunFeet, Town, Ready, askedGraph, usable}
-use Rattle.search_relaxing.specs.Steps.Unfound.{Unknown, Unfound, spentOf, Noted}
+use Rattle.search_relaxing.specs.Steps.Unfound.{Unknown, spentOf, Noted}
 
 -- ---- The beginning
 -- An empty queue for the runs of any network.

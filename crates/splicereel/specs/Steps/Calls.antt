@@ -1,32 +1,17 @@
 -- What the functions behind Route and Least stress ask of one another and promise to one another. What the calls promise stands in specs/Promises.antt.
 -- Assumes nothing.
-use Prim.Native.Nat.{ℕ, _+_, _≤_, _<_}
+use Prim.Native.Nat.{ℕ}
 use mathlib.Core.Path.{_≡_}
-use mathlib.Core.Bool.{true}
 use mathlib.Core.List.{List}
-use lib.ListN.{length}
 use Rattle.routes.specs.Streets.{Streets}
 use Rattle.routes.specs.Routes.{NoRoute}
-use Rattle.network.specs.Network.{nodesOf, isNetwork}
-use Rattle.network.specs.Steps.Corners.{cornersOf, Indexed}
-use Rattle.streets.specs.Runs.{runsOf}
 use Rattle.search_routes.specs.declared.find.Finding.{Finding}
 use Rattle.search_routes.specs.declared.find.Finding.the-variants.{Nothing, Found}
 use Rattle.splicereel.specs.declared.route.RouteAnswer.{RouteAnswer}
 use Rattle.splicereel.specs.declared.route.RouteAnswer.the-variants.{Nothing, Found}
 use Rattle.splicereel.specs.declared.least_stress.LeastAnswer.{LeastAnswer}
 use Rattle.splicereel.specs.declared.least_stress.LeastAnswer.the-variants.{Refused, Nothing, Found}
-use Rattle.splicereel.specs.Promises.{Lent, LeastFound}
-
--- The tests are passed: a network and its index, two of its nodes, and room for a number for each run in each slice lent, in the buffer from the place on.
-pub record Ready (net index : List ℕ) (from to : ℕ) (before : Lent) (place : ℕ) : Type 0 where
-  pub network : isNetwork net ≡ true
-  pub indexed : Indexed (cornersOf net) index
-  pub from-node : from < nodesOf net
-  pub to-node : to < nodesOf net
-  pub best-fits : runsOf net ≤ length (before .best)
-  pub previous-fits : runsOf net ≤ length (before .previous)
-  pub buffer-fits : place + runsOf net ≤ length (before .buffer)
+use Rattle.splicereel.specs.Promises.{LeastFound}
 
 -- A finding as Route's answer.
 abbrev pub answerOf : Finding → RouteAnswer

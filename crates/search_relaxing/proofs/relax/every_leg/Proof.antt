@@ -1,7 +1,10 @@
 -- Each branch of the code is one of the definition's: its tests are answered by what was branched on.
 -- Assumes nothing.
-use mathlib.Core.Path.{refl, sym}
+use mathlib.Core.Path.{refl, ap}
 use borrow.Author.Tests.{eq-eqb, ne-eqb, le-leb, lt-leb}
+use Rattle.lists.specs.Lists.{at}
+use Rattle.streets.specs.Runs.{start}
+use Rattle.search_relaxing.specs.Steps.Unfound.{nothing}
 use Rattle.search_relaxing.specs.Steps.Choice.{everyLeg}
 use native.Mathlib.Omega.{arith}
 use borrow.Author.Needs.{needs}
@@ -27,7 +30,11 @@ add-t13 c = search needs
 -- src/relax.rt:86:13
 returns : tie.Need-returns
 unfolding everyLeg
-returns c = rw (eq-eqb _ _ (c .before .before .before .if1 .taken), sym (c .before .before .start-of .ensures .is), le-leb _ _ (c .if2 .taken)) refl
+returns c =
+    let s = c .before .before .before .before .before in
+    let came = ap (at (s .args .unfound .now)) (c .before .before .start-of .ensures .is) in
+    let noted = at (s .args .unfound .now) (start (s .args .net .now) (s .args .here .run)) in
+    rw (eq-eqb _ _ (c .before .before .before .if1 .taken), le-leb nothing noted (omega (arith, came, c .if2 .taken))) refl
 
 -- src/relax.rt:94:20
 add-t8 : tie.Need-add-t8
@@ -44,7 +51,11 @@ add-t14 c = search needs
 -- src/relax.rt:93:9
 returns-2 : tie.Need-returns-2
 unfolding everyLeg
-returns-2 c = rw (eq-eqb _ _ (c .before .before .before .if1 .taken), sym (c .before .before .start-of .ensures .is), lt-leb _ _ (c .if2 .left)) refl
+returns-2 c =
+    let s = c .before .before .before .before .before in
+    let came = ap (at (s .args .unfound .now)) (c .before .before .start-of .ensures .is) in
+    let noted = at (s .args .unfound .now) (start (s .args .net .now) (s .args .here .run)) in
+    rw (eq-eqb _ _ (c .before .before .before .if1 .taken), lt-leb nothing noted (omega (arith, came, c .if2 .left))) refl
 
 -- src/relax.rt:100:17
 sub-last : tie.Need-sub-last

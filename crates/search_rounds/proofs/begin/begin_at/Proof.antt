@@ -4,7 +4,7 @@
 use mathlib.Core.Path.{_≡_, refl, sym, _∙_}
 use Prim.Native.Nat.{_-_}
 use Rattle.search_labels.specs.Steps.Begin.{idle, first}
-use Rattle.search_relaxing.proofs.TownLaws.{run-of, fair}
+use Rattle.search_relaxing.proofs.TownLaws.{fair}
 use native.Mathlib.Omega.{arith}
 use borrow.Author.Needs.{needs}
 use Rattle.search_rounds.proofs.begin.begin_at.Statement.{statement}

@@ -2,7 +2,7 @@
 -- taken.
 -- Assumes nothing.
 use Rattle.search_labels.proofs.Queueing.{settling-begins, settling-ends}
-use Rattle.search_relaxing.proofs.TownLaws.{run-of, fair}
+use Rattle.search_relaxing.proofs.TownLaws.{fair}
 use Rattle.search_relaxing.proofs.UnfoundLaws.{spread-all, spread-only}
 use native.Mathlib.Omega.{arith}
 use borrow.Author.Needs.{needs}
