@@ -6,15 +6,20 @@ use frames::fields;
 use frames::frame::byte_at;
 use frames::frame::word_at;
 
+// Eight legs for each of 1,000 nodes.
+pub const MOST_CORNERS: usize = 8000;
+
+pub type CornerIndex = [u16; MOST_CORNERS];
+
 // An index with every leg free.
-pub fn no_corners() -> [u16; 8000]
+pub fn no_corners() -> CornerIndex
     ensures { λ r. ⌜ Indexed [] r ⌝ }
 {
-    [0u16; 8000]
+    [0u16; MOST_CORNERS]
 }
 
 // Takes both legs of segment s where they are free and not one leg; else it leaves the index as it was.
-pub fn claim_legs(f: &[u8], s: usize, index: &mut [u16; 8000]) -> bool
+pub fn claim_legs(f: &[u8], s: usize, index: &mut CornerIndex) -> bool
     requires { ⌜ Claimable (now f) s ⌝ }
     ensures { λ r. ⌜ Claimed (now (f .entry)) s (now (index .entry)) (now (index .exit)) r ⌝ }
 {

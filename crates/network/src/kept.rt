@@ -8,6 +8,7 @@ ghost use Rattle.frames.specs.Frame.{headBytes};
 ghost use Rattle.frames.specs.Steps.Sizes.{Limited};
 ghost use Rattle.network.specs.Steps.Corners.{Indexed};
 ghost use Rattle.network.specs.Steps.Checks.{FramesChecked, Checked, SegmentChecked};
+use crate::corners::CornerIndex;
 use crate::corners::claim_legs;
 use frames::Head;
 use frames::decoded::head_of;
@@ -27,7 +28,7 @@ pub fn kept_bytes(head: Head) -> usize
 }
 
 // The frame of segment s follows the rules, and its legs were free; then it takes them.
-fn segment_ok(f: &[u8], head: Head, s: usize, index: &mut [u16; 8000]) -> bool
+fn segment_ok(f: &[u8], head: Head, s: usize, index: &mut CornerIndex) -> bool
     requires { ⌜ (length (now f) ≡ frameBytes (head .edition)) × Limited head × (s < head .segments) ⌝ }
     ensures { λ r. ⌜ SegmentChecked (now (f .entry)) head s (now (index .entry)) (now (index .exit)) r ⌝ }
 {
@@ -44,7 +45,7 @@ fn segment_ok(f: &[u8], head: Head, s: usize, index: &mut [u16; 8000]) -> bool
 }
 
 // The segment frames after the head follow the rules, and no leg is taken twice; then the index has all their corners.
-fn frames_ok(net: &[u8], head: Head, index: &mut [u16; 8000]) -> bool
+fn frames_ok(net: &[u8], head: Head, index: &mut CornerIndex) -> bool
     requires { ⌜ (length (now net) ≡ headBytes + frameBytes (head .edition) * head .segments) × Limited head × Indexed [] (now index) ⌝ }
     ensures { λ r. ⌜ FramesChecked head (drop headBytes (now (net .entry))) (now (index .exit)) r ⌝ }
 {
@@ -63,7 +64,7 @@ fn frames_ok(net: &[u8], head: Head, index: &mut [u16; 8000]) -> bool
 }
 
 // Whether the bytes are a network that Read could keep; then the index has all its corners.
-pub fn is_network(net: &[u8], index: &mut [u16; 8000]) -> bool
+pub fn is_network(net: &[u8], index: &mut CornerIndex) -> bool
     requires { ⌜ Indexed [] (now index) ⌝ }
     ensures { λ r. ⌜ Checked (now (net .entry)) (now (index .exit)) r ⌝ }
 {

@@ -25,6 +25,7 @@ use frames::frame::sum_of;
 use frames::ranges::ends_ok;
 use frames::ranges::head_ok;
 use frames::ranges::street_ok;
+use network::corners::CornerIndex;
 use network::corners::claim_legs;
 use network::corners::no_corners;
 use network::kept::kept_bytes;
@@ -87,7 +88,7 @@ fn frame_line(text: &[u8], at: usize, kind: u8, frame: &mut [u8]) -> LineRead
 }
 
 // Judges the frame of segment s, whose line had no fault of its own, and takes its legs where it has no fault either.
-fn judge_frame(frame: &[u8], next: usize, head: Head, s: usize, index: &mut [u16; 8000]) -> LineRead
+fn judge_frame(frame: &[u8], next: usize, head: Head, s: usize, index: &mut CornerIndex) -> LineRead
     requires { ⌜ (framed 2 (frameBytes (head .edition)) (now frame) 0 ≡ 0) × Limited head ⌝ }
     ensures { λ r. ⌜ SegmentJudged (now (frame .entry)) next head s (now (index .entry)) (now (index .exit)) r ⌝ }
 {
@@ -113,7 +114,7 @@ fn judge_line(
     head: Head,
     s: usize,
     frame: &mut [u8],
-    index: &mut [u16; 8000],
+    index: &mut CornerIndex,
 ) -> LineRead
     requires { ⌜ (at ≤ length (now text)) × Limited head × (length (now frame) ≡ frameBytes (head .edition)) ⌝ }
     ensures { λ r. ⌜ LineJudged (now (text .entry)) at head s (now (index .entry)) (now (index .exit)) r ⌝ }
@@ -125,7 +126,7 @@ fn judge_line(
 }
 
 // The same with a buffer of its own.
-fn segment_line(text: &[u8], at: usize, head: Head, s: usize, index: &mut [u16; 8000]) -> LineRead
+fn segment_line(text: &[u8], at: usize, head: Head, s: usize, index: &mut CornerIndex) -> LineRead
     requires { ⌜ (at ≤ length (now text)) × Limited head ⌝ }
     ensures { λ r. ⌜ LineJudged (now (text .entry)) at head s (now (index .entry)) (now (index .exit)) r ⌝ }
 {

@@ -16,9 +16,10 @@ use Rattle.frames.specs.Edition.{frameBytes}
 use Rattle.frames.specs.Ranges.{endsOk, streetOk}
 use Rattle.frames.specs.Faults.{framed}
 use Rattle.frames.proofs.EditionLaws.{frame-least}
-use Rattle.frames.proofs.FrameLaws.{framed-good, framed-has}
-use Rattle.network.specs.Steps.Checks.{Claimed}
+use Rattle.frames.proofs.FrameLaws.{framed-has}
+use Rattle.network.specs.Steps.Checks.{freeIn, Claimed}
 use Rattle.network.proofs.CornerLaws.{corners-few}
+use Rattle.network.proofs.FaultLaws.{beyond-fault, field-fault, leg-fault, no-fault}
 use Rattle.text.specs.declared.read.LineRead.the-variants.{Frame, Faulty}
 use Rattle.text.specs.Steps.Lines.{faultAfter, SegmentJudged}
 use Rattle.text.proofs.LineLaws.{judged-faulty}
@@ -27,21 +28,22 @@ use Rattle.text.proofs.read.judge_frame.Tie as tie
 
 module _ {f : List ℕ} {next : ℕ} {head : Head} {s : ℕ} {d : List ℕ} (w : framed 2 (frameBytes (head .edition)) f 0 ≡ 0) where
   beyond : ltb s (head .segments) ≡ false → SegmentJudged f next head s d d (Faulty WrongCount)
-  beyond m = judged-faulty WrongCount (framed-good 2 (frameBytes (head .edition)) _ f w ∙ rw m)
+  beyond m = judged-faulty WrongCount (rw m (beyond-fault (head .edition) (head .nodes) f w (freeIn d f)))
 
-  wrong-field : ltb s (head .segments) ≡ true → (endsOk (head .nodes) f && streetOk (head .edition) f) ≡ false → SegmentJudged f next head s d d (Faulty WrongField)
-  wrong-field m o = judged-faulty WrongField (framed-good 2 (frameBytes (head .edition)) _ f w ∙ rw (m, o))
+  wrong-field : ltb s (head .segments) ≡ true → (endsOk (head .nodes) f && streetOk (head .edition) f) ≡ false
+      → SegmentJudged f next head s d d (Faulty WrongField)
+  wrong-field m o = judged-faulty WrongField (rw m (field-fault (head .edition) (head .nodes) f w (freeIn d f) o))
 
   module _ (m : ltb s (head .segments) ≡ true) (o : (endsOk (head .nodes) f && streetOk (head .edition) f) ≡ true) where
     leg-taken : {d′ : List ℕ} → Claimed f s d d′ false → SegmentJudged f next head s d d′ (Faulty LegTaken)
     leg-taken {d′} h =
         let g : d′ ≡ d = h .index ∙ rw (sym (h .answer)) in
         subst (λ (x : List ℕ). SegmentJudged f next head s d x (Faulty LegTaken)) (sym g)
-        (judged-faulty LegTaken (framed-good 2 (frameBytes (head .edition)) _ f w ∙ rw (m, o, sym (h .answer))))
+        (judged-faulty LegTaken (rw (m, sym (h .answer)) (leg-fault (head .edition) (head .nodes) f w o)))
 
-    no-fault : {d′ : List ℕ} → Claimed f s d d′ true → SegmentJudged f next head s d d′ (Frame next)
-    no-fault h =
-        let z : faultAfter head s d f ≡ 0 = framed-good 2 (frameBytes (head .edition)) _ f w ∙ rw (m, o, sym (h .answer)) in
+    faultless : {d′ : List ℕ} → Claimed f s d d′ true → SegmentJudged f next head s d d′ (Frame next)
+    faultless h =
+        let z : faultAfter head s d f ≡ 0 = rw (m, sym (h .answer)) (no-fault (head .edition) (head .nodes) f w o) in
         record { answer = (z, refl); index = h .index ∙ rw (z, sym (h .answer)) }
 
 long : (c : tie.Start) → length (c .args .frame .now) ≡ frameBytes (c .args .head .edition)
@@ -90,7 +92,7 @@ returns-4 c =
 
 returns-5 : tie.Need-returns-5
 returns-5 c =
-    no-fault (c .before .before .before .before .before .before .before .before .before .before .pre .0) (counted (c .before .before .before .before .before .before .before)) (fields (c .before .before .before))
+    faultless (c .before .before .before .before .before .before .before .before .before .before .pre .0) (counted (c .before .before .before .before .before .before .before)) (fields (c .before .before .before))
     (rw (not-false (c .before .claim-legs .result) (c .if4 .left)) at (c .before .claim-legs .ensures))
 
 pub judge-frame-spec : {M : Type 1} → statement M
