@@ -13,6 +13,7 @@ ghost use Rattle.search_relaxing.specs.Steps.Choice.{noLegs, rightLeg, e
 ghost use Rattle.search_relaxing.specs.Steps.Choice.{LabelRoom, BackLabelled, Spreads};
 use crate::Ask;
 use crate::usable::is_usable;
+use network::corners::CornerIndex;
 use search_labels::NONE;
 use search_labels::write_label;
 use streets::exits::right_hand_exit;
@@ -27,8 +28,11 @@ pub const NOTHING: u8 = 9;
 // The legs of a node but for the leg of arrival.
 const OTHERS: usize = 7;
 
-// A number for each node: nothing is known of any.
-pub fn all_unknown() -> [u8; 1000]
+// A number for each node: what is still to find there.
+pub type Unfound = [u8; 1000];
+
+// Nothing is known of any node.
+pub fn all_unknown() -> Unfound
     ensures { λ r. ⌜ Unknown r ⌝ }
 {
     [0u8; 1000]
@@ -79,7 +83,7 @@ fn right_leg(exit: usize, leg: usize, rest: u8) -> Choice
 }
 
 // Where every movement is within the tolerance: onto the seven legs that are not the leg of arrival, or onto the one that is to find.
-fn every_leg(net: &[u8], here: Reached, rest: u8, unfound: &[u8; 1000]) -> Choice
+fn every_leg(net: &[u8], here: Reached, rest: u8, unfound: &Unfound) -> Choice
     requires { ⌜ RunOf (now net) (here .run) × (here .leg < 8) ⌝ }
     ensures { λ r. ⌜ r ≡ everyLeg (here .leg) rest (leb nothing (at (now (unfound .entry)) (start (now (net .entry)) (here .run)))) ⌝ }
 {
@@ -113,7 +117,7 @@ fn every_leg(net: &[u8], here: Reached, rest: u8, unfound: &[u8; 1000]) -> Choic
 }
 
 // Onto which legs the edges from a run lead that may find a run without a label.
-fn choose(net: &[u8], index: &[u16; 8000], ask: Ask, here: Reached, unfound: &[u8; 1000]) -> Choice
+fn choose(net: &[u8], index: &CornerIndex, ask: Ask, here: Reached, unfound: &Unfound) -> Choice
     requires { ⌜ Ready (now net) (now index) ask × Reaches (now net) ask here ⌝ }
     ensures { λ r. ⌜ Chooses (now (net .entry)) (now (index .entry)) ask here (now (unfound .entry)) r ⌝ }
 {
@@ -142,7 +146,7 @@ fn relax_leg(
     best: &mut [u32],
     previous: &mut [u32],
     tree: &mut [u64],
-    unfound: &[u8; 1000],
+    unfound: &Unfound,
 )
     requires { ⌜ Town (now net) (ask .runs) × RunBehind (ask .runs) entry
         × Relaxing (now net) ask here (now unfound) (now best) (now previous) (now tree) ⌝ }
@@ -171,14 +175,14 @@ fn relax_leg(
 // Offers the legs that were chosen, one after the other.
 fn offer(
     net: &[u8],
-    index: &[u16; 8000],
+    index: &CornerIndex,
     ask: Ask,
     here: Reached,
     choice: Choice,
     best: &mut [u32],
     previous: &mut [u32],
     tree: &mut [u64],
-    unfound: &[u8; 1000],
+    unfound: &Unfound,
 )
     requires { ⌜ Relaxable (now net) (now index) ask here (now best) (now previous) (now tree) (now unfound)
         × Chooses (now net) (now index) ask here (now unfound) choice ⌝ }
@@ -197,7 +201,7 @@ fn offer(
 // Labels the way back, where it is to be labelled and has no label, whether it may be ridden or not: nothing comes of its label, and it is never queued.
 fn label_back(
     net: &[u8],
-    index: &[u16; 8000],
+    index: &CornerIndex,
     ask: Ask,
     here: Reached,
     asked: bool,
@@ -226,13 +230,13 @@ fn label_back(
 // Relaxes every edge from a run, and notes what is to find at the node where it arrives.
 pub fn relax(
     net: &[u8],
-    index: &[u16; 8000],
+    index: &CornerIndex,
     ask: Ask,
     here: Reached,
     best: &mut [u32],
     previous: &mut [u32],
     tree: &mut [u64],
-    unfound: &mut [u8; 1000],
+    unfound: &mut Unfound,
 )
     requires { ⌜ Relaxable (now net) (now index) ask here (now best) (now previous) (now tree) (now unfound) ⌝ }
     ensures { λ _. ⌜ Spreads (now (net .entry)) ask here (now (best .entry)) (now (previous .entry)) (now (unfound .entry))

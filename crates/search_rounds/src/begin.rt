@@ -3,6 +3,7 @@ ghost use Rattle.queue.specs.Steps.Queue.{Empty};
 ghost use Rattle.search_labels.specs.Steps.Labels.{Room};
 ghost use Rattle.search_relaxing.specs.Steps.Town.{Ready};
 ghost use Rattle.search_rounds.specs.Steps.Searches.{Seedable, Seeds, Begins};
+use network::corners::CornerIndex;
 use search_labels::NONE;
 use search_labels::clear_labels;
 use search_labels::write_label;
@@ -36,7 +37,7 @@ fn begin_at(
 // Takes all labels away and labels the usable runs that leave the start: they stand at its eight entries of the corner index.
 pub fn begin(
     net: &[u8],
-    index: &[u16; 8000],
+    index: &CornerIndex,
     ask: Ask,
     best: &mut [u32],
     previous: &mut [u32],

@@ -8,11 +8,13 @@ ghost use Rattle.search_relaxing.specs.Steps.Town.{arrivesAt, askedGraph};
 ghost use Rattle.search_rounds.specs.Steps.Searches.{NoKeys, Sought, Unused};
 use crate::begin::begin;
 use crate::settle::settle;
+use network::corners::CornerIndex;
 use queue::TOP;
 use queue::least;
 use search_labels::run_in;
 use search_relaxing::Ask;
 use search_relaxing::relax::NOTHING;
+use search_relaxing::relax::Unfound;
 use search_relaxing::relax::all_unknown;
 use streets::runs::finish_of;
 
@@ -26,13 +28,13 @@ fn arrives_at(net: &[u8], node: usize, run: usize) -> bool
 // Settles runs in the order of their keys until the next one arrives at `to`, and gives its key; TOP where no labelled run is left.
 fn search_to(
     net: &[u8],
-    index: &[u16; 8000],
+    index: &CornerIndex,
     ask: Ask,
     to: usize,
     best: &mut [u32],
     previous: &mut [u32],
     tree: &mut [u64],
-    unfound: &mut [u8; 1000],
+    unfound: &mut Unfound,
 ) -> u64
     requires { ⌜ Sought (now net) (now index) ask to × Room (ask .runs) (now best) (now previous) × Unused (ask .runs) (now tree) (now unfound) ⌝ }
     ensures { λ r. ⌜ Stop (askedGraph (now (net .entry)) ask) (arrivesAt (bicycle (now (net .entry))) to)
@@ -61,7 +63,7 @@ fn no_keys() -> [u64; 4000]
 // The whole search: the key of the nearest run that arrives at `to`; TOP where none does.
 pub fn nearest(
     net: &[u8],
-    index: &[u16; 8000],
+    index: &CornerIndex,
     ask: Ask,
     to: usize,
     best: &mut [u32],

@@ -4,6 +4,7 @@ ghost use Rattle.search_routes.specs.Steps.Answered.{Question, Rooms, An
 use crate::trace::count_runs;
 use crate::trace::fill;
 use crate::trace::route_level;
+use network::corners::CornerIndex;
 use queue::TOP;
 use routes::Found;
 use search_labels::label_in;
@@ -21,7 +22,7 @@ pub enum Finding {
 // Writes a shortest route within the tolerance into the buffer from the place on, where there is one.
 pub fn find(
     net: &[u8],
-    index: &[u16; 8000],
+    index: &CornerIndex,
     ask: Ask,
     to: usize,
     best: &mut [u32],

@@ -11,6 +11,7 @@ ghost use Rattle.streets.specs.Runs.{RunOf};
 ghost use Rattle.streets.specs.Bicycle.{bicycle, movementLevel};
 ghost use Rattle.search_relaxing.specs.Steps.Town.{mostRuns};
 ghost use Rattle.search_routes.specs.Steps.Trace.{Traced, Ends, Fillable, Levellable};
+use network::corners::CornerIndex;
 use search_labels::NONE;
 use streets::movements::arrival_of;
 use streets::movements::level_onto;
@@ -47,7 +48,7 @@ pub fn fill(previous: &[u32], n: usize, last: usize, count: usize, tail: &mut [u
 }
 
 // The level of the movement from a run onto the next.
-fn movement_level(net: &[u8], index: &[u16; 8000], run: usize, next: usize) -> u8
+fn movement_level(net: &[u8], index: &CornerIndex, run: usize, next: usize) -> u8
     requires { ⌜ RunOf (now net) run × RunOf (now net) next × Indexed (cornersOf (now net)) (now index) ⌝ }
     ensures { λ r. ⌜ r ≡ movementLevel (now (net .entry)) run next ⌝ }
 {
@@ -57,7 +58,7 @@ fn movement_level(net: &[u8], index: &[u16; 8000], run: usize, next: usize) -> u
 // The level of the chain.
 pub fn route_level(
     net: &[u8],
-    index: &[u16; 8000],
+    index: &CornerIndex,
     n: usize,
     previous: &[u32],
     last: usize,

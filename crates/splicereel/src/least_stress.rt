@@ -4,6 +4,7 @@ ghost use Rattle.search_routes.specs.Steps.Answered.{Question, Rooms};
 ghost use Rattle.splicereel.specs.Promises.{lent, LeastPromise};
 ghost use Rattle.splicereel.specs.Steps.Calls.{Rising};
 use crate::route::has_room;
+use network::corners::CornerIndex;
 use network::corners::no_corners;
 use network::kept::is_network;
 use refusals::Refusal;
@@ -58,7 +59,7 @@ pub fn least_stress(
 // Asks the same at the tolerances from 1 on.
 fn rising(
     net: &[u8],
-    index: &[u16; 8000],
+    index: &CornerIndex,
     ask: Ask,
     to: usize,
     best: &mut [u32],
