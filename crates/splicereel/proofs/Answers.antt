@@ -63,10 +63,14 @@ room-from runs best previous buffer place l =
 runs-of : (net : List ℕ) {segments : ℕ} → segments ≡ segmentsOf net → 2 * segments ≡ runsOf net
 runs-of net s = ap (λ (n : ℕ). 2 * n) s
 
+-- the three lengths are those of what is lent
+abbrev fitsIn : Lent → ℕ → ℕ → Bool
+fitsIn before place runs = fits runs (length (before .best)) (length (before .previous)) (length (before .buffer)) place
+
 -- ---- the guards, as the calls pass them one after the other
 module _ {net index : List ℕ} {from to place : ℕ} (before : Lent) {kept : Bool} (k : kept ≡ isNetwork net) (is : not kept ≡ false)
     (ix : kept ≡ true → Indexed (cornersOf net) index) {nodes : ℕ} (n : nodes ≡ nodesOf net) (known : leb nodes from || leb nodes to ≡ false)
-    {segments : ℕ} (s : segments ≡ segmentsOf net) {room : Bool} (h : room ≡ fits (2 * segments) (length (before .best)) (length (before .previous)) (length (before .buffer)) place)
+    {segments : ℕ} (s : segments ≡ segmentsOf net) {room : Bool} (h : room ≡ fitsIn before place (2 * segments))
   where
     -- what the search asks: the tests are passed
     pub in-order : (t : ℕ) → 1 ≤ t → not room ≡ false
@@ -124,7 +128,7 @@ module _ (net : List ℕ) (from to t : ℕ) (before : Lent) (place : ℕ) {kept 
       route-no-tolerance e =
           record { refusal = rw (← k, not-false kept is, ← n, both-below from to nodes known, not-within 1 4 t e); holds = refl }
 
-      module _ (calm : ltb t 1 || ltb 4 t ≡ false) {segments : ℕ} (s : segments ≡ segmentsOf net) {room : Bool} (h : room ≡ fits (2 * segments) (length (before .best)) (length (before .previous)) (length (before .buffer)) place)
+      module _ (calm : ltb t 1 || ltb 4 t ≡ false) {segments : ℕ} (s : segments ≡ segmentsOf net) {room : Bool} (h : room ≡ fitsIn before place (2 * segments))
         where
           -- what is left to test is whether there is room
           last-test : routeRefusal net from to t (length (before .best)) (length (before .previous)) (length (before .buffer)) place ≡ unless room NoRoom 0
@@ -197,7 +201,7 @@ module _ (net : List ℕ) (from to : ℕ) (before : Lent) (place : ℕ) {kept : 
     least-no-node e = record { refusal = rw (← k, not-false kept is, ← n, not-both-below from to nodes e); holds = refl }
 
     module _ (known : leb nodes from || leb nodes to ≡ false) {segments : ℕ} (s : segments ≡ segmentsOf net) {room : Bool}
-        (h : room ≡ fits (2 * segments) (length (before .best)) (length (before .previous)) (length (before .buffer)) place)
+        (h : room ≡ fitsIn before place (2 * segments))
       where
         least-last-test : leastStressRefusal net from to (length (before .best)) (length (before .previous)) (length (before .buffer)) place ≡ unless room NoRoom 0
         unfolding leastStressRefusal nodesRefusal
