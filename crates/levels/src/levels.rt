@@ -6,7 +6,7 @@ ghost use Prim.Native.Nat.{_+_, _≤_};
 ghost use lib.ListN.{length};
 ghost use Rattle.network.specs.Network.{segmentsOf, isNetwork};
 ghost use Rattle.refusals.specs.Numbers.{numberOf};
-ghost use Rattle.streets.specs.Runs.{SegmentOf};
+ghost use Rattle.streets.specs.Steps.Places.{SegmentOf};
 ghost use Rattle.printing.specs.Output.{Wrote};
 ghost use Rattle.levels.specs.Levels.{inDecimal, levelLine, levelLines, refusedLine, PrintsLevels};
 use printing::put_byte;

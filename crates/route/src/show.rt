@@ -5,7 +5,7 @@ ghost use Prim.Native.Nat.{_+_, _*_, _/_, _≤_, _<_};
 ghost use lib.ListN.{length};
 ghost use Rattle.network.specs.Network.{isNetwork};
 ghost use Rattle.routes.specs.Routes.{Movement, Route};
-ghost use Rattle.streets.specs.Runs.{RunOf};
+ghost use Rattle.streets.specs.Steps.Places.{RunOf};
 ghost use Rattle.streets.specs.Bicycle.{bicycle, movementLevel};
 ghost use Rattle.route.specs.Page.{pageSize};
 use crate::page::PAGE;

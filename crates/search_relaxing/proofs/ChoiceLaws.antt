@@ -17,7 +17,8 @@ use Rattle.lists.specs.Lists.{at}
 use Rattle.routes.specs.Steps.Labels.{unlabelled, edgeOf}
 use Rattle.network.specs.Steps.Corners.{cornersOf, Indexed}
 use Rattle.streets.specs.Runs.{start, finish, arrivalLeg, feetOf}
-use Rattle.streets.specs.Exits.{exitFrom, rightHandExit, usedIn}
+use Rattle.streets.specs.Exits.{exitFrom, rightHandExit}
+use Rattle.streets.specs.Steps.Places.{usedIn}
 use Rattle.streets.specs.Bicycle.{bicycle, arrivalTurnLevel}
 use Rattle.search_labels.specs.Steps.Relax.{Relaxed}
 use Rattle.search_labels.specs.Steps.Search.{Settling}

@@ -9,7 +9,8 @@ use native.Mathlib.Omega.{arith}
 use Rattle.frames.specs.Edition.{mostFeet}
 use Rattle.network.specs.Network.{editionOf, segmentsOf, isNetwork}
 use Rattle.network.proofs.NetworkLaws.{passed}
-use Rattle.streets.specs.Runs.{feetOf, RunOf}
+use Rattle.streets.specs.Runs.{feetOf}
+use Rattle.streets.specs.Steps.Places.{RunOf}
 use Rattle.streets.specs.Steps.Leaving.{Leaves, Entry}
 use Rattle.search_labels.specs.Steps.Search.{Fair}
 use Rattle.search_relaxing.specs.Steps.Town.{mostRunFeet, mostRuns, Town}

@@ -19,7 +19,8 @@ use Rattle.lists.proofs.Facts.{and-true, true-and, or-true, or-right, lt-or-ge,
 use Rattle.network.specs.Steps.Corners.{cornersOf, Indexed}
 use Rattle.lists.specs.Lists.{at}
 use Rattle.streets.specs.Runs.{start, finish, leavingLeg, arrivalLeg, feetOf}
-use Rattle.streets.specs.Exits.{exitFrom, rightHandExit, usedIn}
+use Rattle.streets.specs.Exits.{exitFrom, rightHandExit}
+use Rattle.streets.specs.Steps.Places.{usedIn}
 use Rattle.streets.specs.Bicycle.{bicycle}
 use Rattle.streets.proofs.ExitLaws.{exit-below}
 use Rattle.streets.proofs.MovementLaws.{exit-is}

@@ -1,6 +1,6 @@
 // What a search at a tolerance may ride.
 ghost use mathlib.Core.Path.{_≡_};
-ghost use Rattle.streets.specs.Runs.{RunOf};
+ghost use Rattle.streets.specs.Steps.Places.{RunOf};
 ghost use Rattle.streets.specs.Bicycle.{bicycle};
 ghost use Rattle.search_relaxing.specs.Steps.Town.{usable};
 use streets::runs::is_open;

@@ -1,6 +1,6 @@
 // The rounds of a search.
 ghost use mathlib.Core.Path.{_≡_};
-ghost use Rattle.streets.specs.Runs.{RunOf};
+ghost use Rattle.streets.specs.Steps.Places.{RunOf};
 ghost use Rattle.streets.specs.Bicycle.{bicycle};
 ghost use Rattle.search_labels.specs.Steps.Labels.{Room};
 ghost use Rattle.search_labels.specs.Steps.Search.{Stop};

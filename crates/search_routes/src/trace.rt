@@ -7,7 +7,7 @@ ghost use Rattle.network.specs.Steps.Corners.{cornersOf, Indexed};
 ghost use Rattle.lists.specs.Lists.{at};
 ghost use Rattle.routes.specs.Steps.Labels.{chain};
 ghost use Rattle.routes.specs.Routes.{levelOf};
-ghost use Rattle.streets.specs.Runs.{RunOf};
+ghost use Rattle.streets.specs.Steps.Places.{RunOf};
 ghost use Rattle.streets.specs.Bicycle.{bicycle, movementLevel};
 ghost use Rattle.search_relaxing.specs.Steps.Town.{mostRuns};
 ghost use Rattle.search_routes.specs.Steps.Trace.{Traced, Ends, Fillable, Levellable};

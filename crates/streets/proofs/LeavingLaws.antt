@@ -22,8 +22,8 @@ use Rattle.network.specs.Legs.{corner, cornerA, cornerB}
 use Rattle.network.specs.Network.{editionOf, nodesOf, frameOf, isNetwork}
 use Rattle.network.specs.Steps.Corners.{leaves, cornersOf, Indexed, LeavesBy}
 use Rattle.network.proofs.NetworkLaws.{passed, frame-follows, corner-below, corner-same, run-leaves, leaves-tells}
-use Rattle.streets.specs.Runs.{runsOf, segmentOf, ridesToB, frameOfRun, start, leavingLeg, finish, arrivalLeg, feetOf, RunOf}
-use Rattle.streets.specs.Steps.Places.{SegmentAt}
+use Rattle.streets.specs.Runs.{runsOf, segmentOf, ridesToB, frameOfRun, start, leavingLeg, finish, arrivalLeg, feetOf}
+use Rattle.streets.specs.Steps.Places.{RunOf, SegmentAt}
 use Rattle.streets.specs.Steps.Leaving.{Entry}
 use Rattle.streets.proofs.EndLaws.{segment-of-run, segment-placed, start-node, leaving-leg-is}
 

@@ -3,18 +3,32 @@
 -- Assumes nothing.
 use Prim.Native.Nat.{ℕ, _+_, _*_, _≤_, _<_, max}
 use mathlib.Core.Path.{_≡_}
-use mathlib.Core.Bool.{cond}
+use mathlib.Core.Bool.{cond, Bool, true, not}
 use mathlib.Core.List.{List}
 use lib.Dec.{eqb}
-use lib.ListN.{length}
+use lib.ListN.{length, getD}
 use Rattle.frames.specs.Edition.{frameBytes}
 use Rattle.frames.specs.Frame.{headBytes}
-use Rattle.network.specs.Network.{editionOf, nodesOf}
+use Rattle.network.specs.Legs.{corner}
+use Rattle.network.specs.Network.{editionOf, nodesOf, segmentsOf, isNetwork}
 use Rattle.streets.specs.declared.movements.Approach.{Approach}
 use Rattle.streets.specs.declared.movements.Arrival.{Arrival}
 use Rattle.streets.specs.Exits.{rightHandExit}
-use Rattle.streets.specs.Runs.{finish, arrivalLeg}
+use Rattle.streets.specs.Runs.{runsOf, finish, arrivalLeg}
 use Rattle.streets.specs.Bicycle.{arrivalTurnLevel, arrivalCrossingLevel}
+
+-- A segment, and a run, of a network that Read could keep.
+pub record SegmentOf (net : List ℕ) (s : ℕ) : Type 0 where
+  pub network : isNetwork net ≡ true
+  pub inside : s < segmentsOf net
+
+pub record RunOf (net : List ℕ) (r : ℕ) : Type 0 where
+  pub network : isNetwork net ≡ true
+  pub inside : r < runsOf net
+
+-- A leg is used, by the corner index: its entry is not 0.
+abbrev pub usedIn : List ℕ → ℕ → ℕ → Bool
+usedIn index node leg = not (eqb (getD index (corner node leg) 0) 0)
 
 -- Where the frame of segment s begins.
 abbrev pub framePlace : List ℕ → ℕ → ℕ
