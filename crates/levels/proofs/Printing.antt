@@ -19,7 +19,7 @@ use Rattle.network.specs.Network.{segmentsOf}
 use Rattle.text.specs.Samples.{characters}
 use Rattle.stress.specs.declared.segment.Grade.{Grade}
 use Rattle.streets.specs.Bicycle.{segmentGrade}
-use Rattle.printing.specs.Output.{Wrote}
+use Rattle.printing.specs.Steps.Wrote.{Wrote}
 use Rattle.levels.specs.Levels.{inDecimal, levelLine, levelLines, refusedLine, levelsRoom, levelsOf, PrintsLevels}
 use Rattle.printing.proofs.Decimal.{decimal-length}
 use Rattle.printing.proofs.Writing.{wrote-length, wrote-then, wrote-nothing}

@@ -7,7 +7,7 @@ ghost use lib.ListN.{length};
 ghost use Rattle.network.specs.Network.{segmentsOf, isNetwork};
 ghost use Rattle.refusals.specs.Numbers.{numberOf};
 ghost use Rattle.streets.specs.Steps.Places.{SegmentOf};
-ghost use Rattle.printing.specs.Output.{Wrote};
+ghost use Rattle.printing.specs.Steps.Wrote.{Wrote};
 ghost use Rattle.levels.specs.Levels.{inDecimal, levelLine, levelLines, refusedLine, PrintsLevels};
 use printing::put_byte;
 use printing::put_bytes;

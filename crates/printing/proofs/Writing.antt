@@ -10,7 +10,7 @@ use mathlib.Core.List.{List, [], _∷_, _++_, append-assoc, append-nil}
 use lib.ListN.{length, take, drop, set, length-append, length-drop, take-append-drop, drop-of-length-le}
 use lib.Seq.{length-take-le, take-at, take-all, take-length, drop-append-add, drop-drop, set-split}
 use Rattle.lists.specs.Placed.{placed}
-use Rattle.printing.specs.Output.{Wrote}
+use Rattle.printing.specs.Steps.Wrote.{Wrote}
 
 module _ (place : ℕ) (xs b : List ℕ) (fits : place + length xs ≤ length b) where
   front : length (take place b ++ xs) ≡ place + length xs

@@ -2,7 +2,8 @@
 ghost use Prim.Native.Nat.{_+_, _≤_, _<_};
 ghost use mathlib.Core.List.{[], _∷_};
 ghost use lib.ListN.{length};
-ghost use Rattle.printing.specs.Output.{Wrote, decimal};
+ghost use Rattle.printing.specs.Steps.Wrote.{Wrote};
+ghost use Rattle.printing.specs.Output.{decimal};
 
 pub fn put_byte(byte: u8, place: usize, out: &mut [u8]) -> usize
     requires { ⌜ place < length (now out) ⌝ }

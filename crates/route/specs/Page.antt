@@ -3,7 +3,7 @@
 use Prim.Native.Nat.{ℕ}
 use mathlib.Core.List.{List}
 use Rattle.io.specs.Digits.{digits, Fewest}
-use Rattle.printing.specs.Output.{Wrote}
+use Rattle.printing.specs.Steps.Wrote.{Wrote}
 
 abbrev pub pageSize : ℕ
 pageSize = 524288

@@ -2,7 +2,7 @@
 ghost use mathlib.Core.Path.{_≡_};
 ghost use Prim.Native.Nat.{_+_, _-_, _≤_};
 ghost use lib.ListN.{length};
-ghost use Rattle.printing.specs.Output.{Wrote};
+ghost use Rattle.printing.specs.Steps.Wrote.{Wrote};
 ghost use Rattle.route.specs.Page.{pageSize, Spelled};
 use printing::put_bytes;
 

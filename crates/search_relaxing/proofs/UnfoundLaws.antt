@@ -37,7 +37,7 @@ use Rattle.streets.proofs.LeavingLaws.{node-small, start-below, leaving-below, 
 use Rattle.search_relaxing.proofs.TownLaws.{run-of, fair, run-behind}
 use Rattle.search_relaxing.proofs.TestLaws.{source-usable, edge-onward, turns-back, is-back, right-by, every-edge, way-every, way-right}
 
--- a run that arrives where nothing is left
+-- a run that arrives where nothing is to find
 pub spent-at : (net unfound : List ℕ) (r : ℕ) {node : ℕ} → node ≡ finish net r → nothing ≤ at unfound node → spentOf net unfound r ≡ true
 unfolding spentOf
 spent-at net unfound r e h = le-leb nothing (at unfound (finish net r)) (omega (arith, ap (at unfound) e))
@@ -94,7 +94,7 @@ module _ {net : List ℕ} {t n u base : ℕ} {best previous unfound best′ prev
       (or-true (edgeOf (bicycle net) t u r) (S .back && turnsBack net u r) e)
 
 module _ {net : List ℕ} {n : ℕ} (T : Town net n) where
-  -- at first every usable run that leaves the start has its label, and nothing is left there
+  -- at first every usable run that leaves the start has its label, and nothing is to find there
   pub unfound-begun : (t from : ℕ) {best previous unfound : List ℕ} → Unknown unfound → Begun (townGraph net n t from) best previous
       → Unfound net t n best (set unfound from nothing)
   unfolding firstLabel
@@ -135,13 +135,13 @@ module _ {net : List ℕ} {n : ℕ} (T : Town net n) where
             (λ (k : finish net r ≡ to). omega (arith, leb-true nothing (at unfound (finish net r)) s, ap (at unfound) k, z));
       }
 
-  -- where nothing is left, every edge leads to a labelled run
+  -- where nothing is to find, every edge leads to a labelled run
   pub none-unfound : {t u node leg : ℕ} {best unfound : List ℕ} → Arrives net u node leg → Unfound net t n best unfound → nothing ≤ at unfound node
       → (r : ℕ) → r < n → unlabelled ≤ at best r → edgeOf (bicycle net) t u r ≡ true → ⊥
   none-unfound {t} {u} {unfound = unfound} A L h r l none e =
       omega (arith, spent-closed L u r (omega (arith, ap (at unfound) (A .at-node .is))) l e)
 
-  -- more is said of a node where something was left: no run is spent less
+  -- more is said of a node where something was to find: no run is spent less
   spent-grows : (unfound : List ℕ) (node x : ℕ) → at unfound node < nothing → (r : ℕ) → r < n → spentOf net unfound r ≡ true → spentOf net (set unfound node x) r ≡ true
   unfolding spentOf
   spent-grows unfound node x some r l s =
@@ -167,7 +167,7 @@ module _ {net : List ℕ} {n : ℕ} (T : Town net n) where
           grows = λ r l s. s;
         }
 
-    -- something is said of the node, where something was left
+    -- something is said of the node, where something was to find
     noted-set : (x : ℕ) → at unfound node < nothing
         → ((r : ℕ) → r < n → usable (bicycle net) t r ≡ true → start net r ≡ node → (leavingLeg net r + 1 ≡ x → ⊥) → at best′ r < unlabelled)
         → Noted net t n u best′ unfound (set unfound node x)
@@ -207,7 +207,7 @@ module _ {net : List ℕ} {n : ℕ} (T : Town net n) where
           (all r
           (sym (every-edge every r (from ∙ A .at-node .is) (λ (k : leavingLeg net r ≡ arrivalLeg net u). apart (omega (arith, A .by-leg .is)))) ∙ s))
 
-      -- so where the one by the leg of arrival has its own, nothing is left
+      -- so where the one by the leg of arrival has its own, nothing is to find
       noted-nothing : ((r : ℕ) → r < n → usable (bicycle net) t r ≡ true → start net r ≡ node → leavingLeg net r ≡ leg → at best′ r < unlabelled)
           → Noted net t n u best′ unfound (set unfound node nothing)
       noted-nothing own =
@@ -287,7 +287,7 @@ module _ {net : List ℕ} {n : ℕ} (T : Town net n) where
         let E = entry-at (A .by-leg .below) .leaving r e in
         is-back net u r (E .from ∙ A .at-node .is) (E .by ∙ A .by-leg .is)
 
-    -- it ends where u began: where nothing is left there, it is spent
+    -- it ends where u began: where nothing is to find there, it is spent
     back-spent : (unfound : List ℕ) {came : ℕ} → u < n → came ≡ start net u → nothing ≤ at unfound came → (r : ℕ) → r < n → turnsBack net u r ≡ true
         → spentOf net unfound r ≡ true
     back-spent unfound l is none r k e =
@@ -329,7 +329,7 @@ module _ {net : List ℕ} {n : ℕ} (T : Town net n) where
           noted = noted-back A L both (S₁ .room) every some (leads-edge net t true u) (λ r. leads-back net t true u r refl);
         }
 
-    -- where one leg is left, an edge to a run without a label leads by that leg
+    -- where one leg is to find, an edge to a run without a label leads by that leg
     module _ {t : ℕ} {best unfound : List ℕ} (exit : ℕ) (L : Unfound net t n best unfound) (one : at unfound node ≡ exit + 1) where
       pub last-by : (r : ℕ) → r < n → unlabelled ≤ at best r → edgeOf (bicycle net) t u r ≡ true → leavingLeg net r ≡ exit
       last-by r l none e =
