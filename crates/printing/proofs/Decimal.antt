@@ -15,16 +15,6 @@ use Rattle.lists.proofs.Facts.{lt-or-ge}
 use Rattle.io.specs.Digits.{glyph, digits, Fewest}
 use Rattle.printing.specs.Output.{decimal}
 
-pub decimal-length : (k n : ℕ) → length (decimal k n) ≤ k
-unfolding decimal
-decimal-length zero n = omega arith
-decimal-length (suc k) n = go (ltb n 10) (decimal-length k (n / 10))
-  where
-    go : (t : Bool) → length (decimal k (n / 10)) ≤ k
-        → length (cond t ((48 + n) ∷ []) (decimal k (n / 10) ++ ((48 + n % 10) ∷ []))) ≤ suc k
-    go true h = omega arith
-    go false h = omega (arith, length-append (decimal k (n / 10)) ((48 + n % 10) ∷ []))
-
 -- ---- how many digits
 module _ (n k : ℕ) (small : n < 18446744073709551616) (F : Fewest 10 1 n k) where
   not-more : 20 < k → ⊥
@@ -69,3 +59,14 @@ decimal-digits (suc j) (suc k) n l F = go (lt-or-ge n 10) (decimal-digits j k (n
         rw (lt-ltb n 10 h, one-digit n k F h, same) (ap (λ (d : ℕ). d ∷ []) (digit-glyph n h))
     go (inr h) more =
         rw (le-ltb n 10 h) (ap₂ (λ (front : List ℕ) (d : ℕ). front ++ (d ∷ [])) (more (tenth n k F h)) (digit-glyph (n % 10) (omega arith)))
+
+-- however few digits are asked for, there are no more
+pub decimal-length : (k n : ℕ) → length (decimal k n) ≤ k
+unfolding decimal
+decimal-length zero n = omega arith
+decimal-length (suc k) n = go (ltb n 10) (decimal-length k (n / 10))
+  where
+    go : (t : Bool) → length (decimal k (n / 10)) ≤ k
+        → length (cond t ((48 + n) ∷ []) (decimal k (n / 10) ++ ((48 + n % 10) ∷ []))) ≤ suc k
+    go true h = omega arith
+    go false h = omega (arith, length-append (decimal k (n / 10)) ((48 + n % 10) ∷ []))

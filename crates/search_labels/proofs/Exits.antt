@@ -168,12 +168,6 @@ offered-all {edge} {feet} {n} {u} {base} {entry} {i} {best₀} {previous₀} {be
           (s .label, s .before);
     }
 
--- no edge leads to a run without a label
-pub relaxed-none : {edge : ℕ → ℕ → Bool} {feet : ℕ → ℕ} {n u base : ℕ} {best previous : List ℕ}
-    → ((r : ℕ) → r < n → unlabelled ≤ at best r → edge u r ≡ true → ⊥) → Relaxed edge feet n u base best previous best previous
-relaxed-none {edge} {feet} {n} {u} {base} {best} {previous} none =
-    offered-all (λ r l h e. absurd (none r l h e)) (offered-none edge feet u base (λ (k : ℕ). 0) best previous)
-
 -- edges lead to the run behind one entry at most
 pub relaxed-one : {edge : ℕ → ℕ → Bool} {feet : ℕ → ℕ} {n u base entry : ℕ} {best previous best′ previous′ : List ℕ}
     → ((r : ℕ) → r < n → unlabelled ≤ at best r → edge u r ≡ true → entry ≡ r + 1) → ((r : ℕ) → entry ≡ r + 1 → r < n)

@@ -6,9 +6,7 @@ use mathlib.Core.Path.{_≡_, refl, sym, _∙_}
 use mathlib.Core.List.{List, []}
 use mathlib.Core.Logic.{⊎-elim}
 use Prim.Native.Nat.{ℕ, _≤_, _<_}
-use native.Mathlib.Nat.{add-zero}
 use native.Mathlib.Omega.{arith}
-use lib.ListN.{take-append-drop}
 use borrow.Author.Tests.{eq-eqb, eqb-true}
 use Rattle.routes.specs.Streets.{Streets}
 use Rattle.routes.specs.Routes.{lengthOf, levelOf, Shortest, NoRoute}
@@ -22,6 +20,7 @@ use Rattle.search_labels.specs.Steps.Keys.{labelIn, runIn, key}
 use Rattle.search_labels.specs.Steps.Search.{Fair, loose, Stop}
 use Rattle.search_relaxing.specs.Steps.Town.{arrivesAt}
 use Rattle.lists.specs.Placed.{placed}
+use Rattle.lists.proofs.PlacedLaws.{placed-nothing}
 use Rattle.search_routes.specs.Steps.Trace.{Traced, Ends}
 use Rattle.routes.specs.Written.{Written}
 use Rattle.search_labels.proofs.Invariant.{fair-paved}
@@ -105,6 +104,6 @@ stay-written g t a b place before l e =
       counted = refl;
       measured = refl;
       judged = refl;
-      text = rw (add-zero place) (sym (take-append-drop place before));
+      text = placed-nothing place before;
       few = omega arith;
     }

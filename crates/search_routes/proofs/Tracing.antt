@@ -3,17 +3,18 @@
 -- chain, so that at the front of the tail it holds it.
 -- Assumes nothing.
 use mathlib.Core.Path.{_≡_, refl, _∙_, ap}
-use mathlib.Core.List.{List, [], _∷_, _++_, append-nil}
+use mathlib.Core.List.{List, [], _∷_, _++_}
 use mathlib.Core.Logic.{_⊎_, ⊎-elim}
 use Prim.Native.Nat.{ℕ, zero, suc, _+_, _-_, _≤_, _<_}
 use native.Mathlib.Nat.{not-suc-le-zero, add-zero}
 use native.Mathlib.Numerals.{one-add}
 use native.Mathlib.Omega.{arith}
 use lib.ListN.{length, take, drop, set, length-set, length-drop}
-use lib.Seq.{take-length, drop-length, drop-cons, drop-drop, drop-set-lt, getD-set-same, lt-length-set}
+use lib.Seq.{take-length, drop-cons, drop-drop, drop-set-lt, getD-set-same, lt-length-set}
 use Rattle.routes.specs.Steps.Labels.{unlabelled, Depth, chain}
 use Rattle.routes.proofs.Chains.{chain-count}
 use Rattle.lists.specs.Placed.{placed}
+use Rattle.lists.proofs.PlacedLaws.{tail-back}
 use Rattle.search_routes.specs.Steps.Trace.{Traced, Ends}
 
 -- a chain has a first run and a last
@@ -138,11 +139,11 @@ pub tail-placed : {n : ℕ} {previous : ℕ → ℕ} {r k : ℕ} → Traced n pr
     → take place before ++ (tail ++ drop (length before - place) (drop place before)) ≡ placed place (chain previous k r []) before
 tail-placed {previous = previous} {r = r} {k = k} T place before {tail} e =
     let whole : take (length before - place) (drop place before) ≡ drop place before = rw length-drop at (take-length (drop place before)) in
-    let none : drop (length before - place) (drop place before) ≡ [] = rw length-drop at (drop-length (drop place before)) in
     let counted : length (chain previous k r []) ≡ k = omega (arith, chain-count previous k r []) in
     let text : tail ≡ chain previous k r [] ++ drop (place + k) before =
     e
     ∙ ap (λ (xs : List ℕ). chain previous k r (drop k xs)) whole
     ∙ chain-append previous k r [] (drop k (drop place before))
     ∙ ap (λ (xs : List ℕ). chain previous k r [] ++ xs) (drop-drop k place before) in
-    rw (none, append-nil, counted, text)
+    let whole-tail : tail ≡ chain previous k r [] ++ drop (place + length (chain previous k r [])) before = rw counted text in
+    tail-back place (chain previous k r []) before whole-tail
