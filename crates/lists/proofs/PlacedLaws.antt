@@ -1,5 +1,5 @@
 -- Writing over a list. It keeps its length; writing nothing changes nothing; and writing xs and then ys right after it is writing xs ++ ys: the front of what
--- the first wrote stays, and what lies past both is as it was.
+-- the first wrote stays, and what lies past both is as it was. A tail that is lent, written and put back is written in its place.
 -- Assumes nothing.
 use Prim.Native.Nat.{ℕ, _+_, _-_, _≤_}
 use native.Mathlib.Nat.{add-zero}

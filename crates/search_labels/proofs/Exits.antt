@@ -1,4 +1,4 @@
--- Entries of the corner index are offered one after the other; an entry may be free, and a run may stand at more than one. After each offer every run is
+-- Entries, each 0 or 1 + a run, are offered one after the other; an entry may be free, and a run may stand at more than one. After each offer every run is
 -- as it was before the round, or has got its label by way of u; and of those runs without a label to which an edge leads, each that stood at an entry
 -- already passed has got it. A run that is visited again is labelled and stays. Where every run without a label to which an edge leads stands at one
 -- of the entries, every edge is relaxed after the last offer. Of how many entries that is true, none, one or seven, is no matter here. What "edge" means

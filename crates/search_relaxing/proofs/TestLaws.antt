@@ -1,6 +1,6 @@
 -- What the tests of the code come to. Of a run that leaves the start, "usable" is "a source". Of a run that leaves by a leg of the node where another
 -- arrives, an edge leads to it exactly when that leg is not the leg of arrival, the level of the movement is within the tolerance, and the run is
--- usable; where it is, the run goes back, and "usable" is "turns back". The level of a movement is the turn lane's at the arrival, onto the right-hand
+-- usable; by the leg of arrival itself the run goes back. The level of a movement is the turn lane's at the arrival, onto the right-hand
 -- exit, or the greater of that and the crossing's.
 -- Assumes nothing.
 use mathlib.Core.Path.{_≡_, sym, _∙_, ap}

@@ -1,4 +1,4 @@
--- What is true between two rounds of a search, and what a round makes of it.
+-- What is true between two rounds of a search.
 -- Assumes nothing.
 use mathlib.Core.Path.{_≡_}
 use mathlib.Core.List.{List}

@@ -15,7 +15,7 @@ pub data Visit (edge : ℕ → ℕ → Bool) (feet : ℕ → ℕ) (u base r : �
   labelled : unlabelled ≤ at best r → edge u r ≡ true → best′ ≡ set best r (base + feet r) → previous′ ≡ set previous r u
       → Visit edge feet u base r best previous best′ previous′
 
--- What an entry of the corner index makes of the labels: nothing, or a visit of its run.
+-- What an entry, 0 or 1 + a run, makes of the labels: nothing, or a visit of its run.
 pub data Offer (edge : ℕ → ℕ → Bool) (feet : ℕ → ℕ) (u base entry : ℕ) (best previous best′ previous′ : List ℕ) : Type 0 where
   free : entry ≡ 0 → best′ ≡ best → previous′ ≡ previous → Offer edge feet u base entry best previous best′ previous′
   leads : {r : ℕ} → Visit edge feet u base r best previous best′ previous′ → entry ≡ r + 1 → Offer edge feet u base entry best previous best′ previous′
