@@ -1,7 +1,19 @@
 // Standard input is a network text. Prints what Route says between its first nine nodes, and between 24 pairs spread over the network, at tolerances 0
 // to 5, and what Least stress says; for a refusal its number and whether anything lent was written. The
 // last five lines are refusals 11, 8 and, for a short scratch, 11. Which of several shortest routes is drawn is free,
-// so only lengths are printed.
+// so only lengths are printed. Every question is asked a second time in a county's memory, which must say the same.
+ghost use mathlib.Core.Path.{_≡_};
+ghost use Prim.Native.Nat.{_*_};
+ghost use lib.ListN.{length};
+ghost use Rattle.frames.specs.Steps.Sizes.{townSize};
+
+mod county;
+
+use crate::county::same_least;
+use crate::county::same_levels;
+use crate::county::same_reading;
+use crate::county::same_route;
+use frames::sizes;
 use refusals::Refusal;
 use refusals::number_of;
 use routes::Found;
@@ -9,7 +21,10 @@ use splicereel::least_stress::LeastAnswer;
 use splicereel::route::RouteAnswer;
 use text::ReadAnswer;
 
-const OUT: i32 = 1;
+pub const OUT: i32 = 1;
+
+// Two runs for each segment of a town.
+pub const RUNS: usize = 2 * sizes::TOWN;
 
 const SCRATCH: u32 = 7;
 
@@ -17,17 +32,22 @@ const RUN: u16 = 9;
 
 const PLACE: usize = 50;
 
+// As many runs from the place on, and as many elements after them.
+const BUFFER: usize = PLACE + RUNS + PLACE;
+
 fn put(number: usize) {
     io::print_decimal(OUT, number as u64);
     io::write_all(OUT, b" ");
 }
 
-fn scratch() -> [u32; 2000] {
-    [SCRATCH; 2000]
+pub fn scratch() -> [u32; RUNS]
+    ensures { λ r. ⌜ length r ≡ 2 * townSize ⌝ }
+{
+    [SCRATCH; RUNS]
 }
 
-fn runs() -> [u16; 2100] {
-    [RUN; 2100]
+pub fn runs() -> [u16; BUFFER] {
+    [RUN; BUFFER]
 }
 
 // Every number is as it was lent.
@@ -84,7 +104,7 @@ fn show_route(net: &[u8], from: usize, to: usize, tolerance: usize, place: usize
     put(from);
     put(to);
     put(tolerance);
-    match splicereel::route::route(
+    let answer = splicereel::route::route(
         net,
         from,
         to,
@@ -93,12 +113,14 @@ fn show_route(net: &[u8], from: usize, to: usize, tolerance: usize, place: usize
         &mut previous,
         &mut buffer,
         place,
-    ) {
+    );
+    match answer {
         RouteAnswer::Refused(refusal) => refused(refusal, &best, &previous, &buffer),
         RouteAnswer::Nothing => none(&buffer),
         RouteAnswer::Found(route) => found(route),
     }
     io::write_all(OUT, b"\n");
+    same_route(net, from, to, tolerance, place, answer, &buffer);
 }
 
 fn show_least(net: &[u8], from: usize, to: usize, place: usize) {
@@ -108,7 +130,7 @@ fn show_least(net: &[u8], from: usize, to: usize, place: usize) {
     put(from);
     put(to);
     io::write_all(OUT, b"least ");
-    match splicereel::least_stress::least_stress(
+    let answer = splicereel::least_stress::least_stress(
         net,
         from,
         to,
@@ -116,7 +138,8 @@ fn show_least(net: &[u8], from: usize, to: usize, place: usize) {
         &mut previous,
         &mut buffer,
         place,
-    ) {
+    );
+    match answer {
         LeastAnswer::Refused(refusal) => refused(refusal, &best, &previous, &buffer),
         LeastAnswer::Nothing => none(&buffer),
         LeastAnswer::Found {
@@ -129,6 +152,7 @@ fn show_least(net: &[u8], from: usize, to: usize, place: usize) {
         }
     }
     io::write_all(OUT, b"\n");
+    same_least(net, from, to, place, answer, &buffer);
 }
 
 fn show(net: &[u8], from: usize, to: usize) {
@@ -155,8 +179,8 @@ fn show_short(net: &[u8]) {
 
 // A place beyond the buffer's end; and bytes that are no network, the head's first byte left out.
 fn show_refusals(net: &[u8]) {
-    show_route(net, 0, 0, 1, 2101);
-    show_least(net, 0, 0, 2101);
+    show_route(net, 0, 0, 1, BUFFER + 1);
+    show_least(net, 0, 0, BUFFER + 1);
     if 0 < net.len() {
         show_route(&net[1..], 0, 0, 1, PLACE);
         show_least(&net[1..], 0, 0, PLACE);
@@ -172,10 +196,11 @@ fn show_all(net: &[u8]) {
     }
     let mut k: usize = 1;
     while k < 25 {
-        show(net, k * 37 % 1000, k * 91 % 1000);
+        show(net, k * 37 % sizes::TOWN, k * 91 % sizes::TOWN);
         k += 1;
     }
     show_refusals(net);
+    same_levels(net);
 }
 
 fn main() {
@@ -189,6 +214,10 @@ fn main() {
         } => {
             io::write_all(OUT, b"not read\n");
         }
-        ReadAnswer::Kept(kept) => show_all(&net[..kept]),
+        ReadAnswer::Kept(kept) => {
+            let network = &net[..kept];
+            show_all(network);
+            same_reading(&text[..count], network);
+        }
     }
 }

@@ -16,11 +16,11 @@ use Rattle.refusals.specs.declared.Refusal.the-variants.{NotDigits, WrongCheck,
 use Rattle.refusals.specs.Numbers.{numberOf, unless}
 use Rattle.frames.specs.declared.Head.{Head}
 use Rattle.frames.specs.Edition.{editionOk, mostNodes, mostSegments}
+use Rattle.frames.specs.Steps.Sizes.{countySize, Limited}
 use Rattle.frames.specs.Frame.{total, checkOk, byte, isFrame, edition, nodes, segments, nodeA, legA, nodeB, legB}
 use Rattle.frames.specs.Decoded.{headFields}
 use Rattle.frames.specs.Ranges.{within, headOk, endsOk}
 use Rattle.frames.specs.Faults.{framed}
-use Rattle.frames.specs.Steps.Sizes.{Limited}
 use Rattle.frames.proofs.EditionLaws.{nodes-few, segments-few}
 use Rattle.frames.proofs.RangeLaws.{within-high}
 
@@ -132,8 +132,8 @@ pub record HeadLimits (h : List ℕ) : Type 0 where
   pub edition-ok : editionOk (edition h) ≡ true
   pub nodes-most : nodes h ≤ mostNodes (edition h)
   pub segments-most : segments h ≤ mostSegments (edition h)
-  pub few-nodes : nodes h ≤ 1000
-  pub few-segments : segments h ≤ 1000
+  pub few-nodes : nodes h ≤ countySize
+  pub few-segments : segments h ≤ countySize
 
 pub head-limits : (h : List ℕ) → headOk h ≡ true → HeadLimits h
 unfolding headOk

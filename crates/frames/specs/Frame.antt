@@ -1,12 +1,12 @@
 -- Document 01, "Frames": where the fields of a frame stand. A frame is the list of its bytes; larger fields have the high byte first. What stands
 -- after the length takes the edition e.
 -- Assumes nothing.
-use Prim.Native.Nat.{ℕ, _+_, _*_, _%_}
+use Prim.Native.Nat.{ℕ, zero, suc, _+_, _*_, _%_}
 use mathlib.Core.Bool.{Bool, _&&_}
 use mathlib.Core.List.{List, [], _∷_}
 use lib.Dec.{eqb}
 use lib.ListN.{length, getD}
-use Rattle.frames.specs.Edition.{extra}
+use Rattle.frames.specs.Edition.{extra, lengthBytes}
 
 -- The byte at i; and the two bytes from i.
 abbrev pub byte : List ℕ → ℕ → ℕ
@@ -14,6 +14,11 @@ byte f i = getD f i 0
 
 abbrev pub word : List ℕ → ℕ → ℕ
 word f i = getD f i 0 * 256 + getD f (i + 1) 0
+
+-- The number that so many bytes from i make.
+unfoldable pub number : ℕ → List ℕ → ℕ → ℕ
+number zero f i = 0
+number (suc width) f i = number width f i * 256 + byte f (i + width)
 
 -- The last byte of a frame is its check: all bytes of the frame sum to 0 modulo 256.
 unfoldable pub total : List ℕ → ℕ
@@ -54,9 +59,8 @@ nodeB f = word f 4
 abbrev pub legB : List ℕ → ℕ
 legB f = byte f 6
 
--- An edition with a wider length adds its case here.
 unfoldable pub feet : ℕ → List ℕ → ℕ
-feet e f = word f 7
+feet e f = number (lengthBytes e) f 7
 
 abbrev pub form : ℕ → List ℕ → ℕ
 form e f = byte f (extra e + 9)

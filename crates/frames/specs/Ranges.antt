@@ -4,7 +4,7 @@ use Prim.Native.Nat.{ℕ}
 use mathlib.Core.Bool.{Bool, _&&_, _||_}
 use mathlib.Core.List.{List}
 use lib.Dec.{leb, ltb, eqb}
-use Rattle.frames.specs.Edition.{editionOk, mostNodes, mostSegments, mostFeet, marksOk, crossesNothing}
+use Rattle.frames.specs.Edition.{editionOk, mostNodes, mostSegments, mostFeet, mostTurnFeet, marksOk, crossesNothing}
 use Rattle.frames.specs.Frame.{edition, nodes, segments, nodeA, legA, nodeB, legB, form, ways, lanes, speed, reach, marks, approachB, approachA}
 use Rattle.frames.specs.Frame.{feet, control, lanesCrossed, speedCrossed, turnKind, turnFeet, turningSpeed}
 
@@ -12,7 +12,7 @@ use Rattle.frames.specs.Frame.{feet, control, lanesCrossed, speedCrossed
 abbrev pub within : ℕ → ℕ → ℕ → Bool
 within lo hi x = leb lo x && leb x hi
 
--- Head: edition 01; nodes N, 1 to 1,000; segments S, 0 to 1,000.
+-- Head: an edition that exists; nodes N from 1, and segments S from 0, to what it allows.
 unfoldable pub headOk : List ℕ → Bool
 headOk h = editionOk (edition h) && within 1 (mostNodes (edition h)) (nodes h) && leb (segments h) (mostSegments (edition h))
 
@@ -33,16 +33,16 @@ crossingOk e f i =
     (crossesNothing e (control f i) && eqb (lanesCrossed f i) 0 && eqb (speedCrossed f i) 0)
     || (within 2 4 (control f i) && within 1 12 (lanesCrossed f i) && within 5 85 (speedCrossed f i))
 
--- Turn kind 0 has length and turning speed 0; the others 1 to 2,000 and 5 to 85.
+-- Turn kind 0 has length and turning speed 0; the others a length from 1 up and 5 to 85.
 unfoldable pub turnLaneOk : List ℕ → ℕ → Bool
 turnLaneOk f i =
     (eqb (turnKind f i) 0 && eqb (turnFeet f i) 0 && eqb (turningSpeed f i) 0)
-    || (within 1 3 (turnKind f i) && within 1 2000 (turnFeet f i) && within 5 85 (turningSpeed f i))
+    || (within 1 3 (turnKind f i) && within 1 mostTurnFeet (turnFeet f i) && within 5 85 (turningSpeed f i))
 
 unfoldable pub approachOk : ℕ → List ℕ → ℕ → Bool
 approachOk e f i = crossingOk e f i && turnLaneOk f i
 
--- What a segment's frame has after its ends: length 1 to 52,800; a form; ways 1 to 3; two approaches.
+-- What a segment's frame has after its ends: length from 1 to what the edition allows; a form; ways 1 to 3; two approaches.
 unfoldable pub streetOk : ℕ → List ℕ → Bool
 streetOk e f =
     within 1 (mostFeet e) (feet e f) && formOk e f && within 1 3 (ways e f) && approachOk e f (approachB e) && approachOk e f (approachA e)

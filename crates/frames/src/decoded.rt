@@ -30,7 +30,7 @@ pub fn head_of(h: &[u8]) -> Head
 // The segment's length in feet.
 pub fn feet_at(net: &[u8], start: usize, e: u8) -> usize
     requires { ⌜ start + frameBytes e ≤ length (now net) ⌝ }
-    ensures { λ r. ⌜ (r ≡ feet e (take (frameBytes e) (drop start (now (net .entry))))) × (r < 65536) ⌝ }
+    ensures { λ r. ⌜ (r ≡ feet e (take (frameBytes e) (drop start (now (net .entry))))) × (r < 4294967296) ⌝ }
 {
     let size = frame_bytes(e);
     feet_of(&net[start..start + size], e)

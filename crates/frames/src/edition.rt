@@ -2,7 +2,15 @@
 ghost use mathlib.Core.Path.{_≡_};
 ghost use Rattle.frames.specs.Edition.{editionOk, mostNodes, mostSegments, mostFeet, marksOk, crossesNothing};
 ghost use Rattle.frames.specs.Steps.Sizes.{Extra, FrameSize};
-use crate::fields;
+
+// The longest turn lane, in feet.
+pub const MOST_TURN_FEET: usize = 2000;
+
+// In so many bytes every network that Read can keep has room.
+pub const MOST_KEPT: usize = 7 + SEGMENT_BYTES * 1000;
+
+// The bytes of a segment's frame where its length has 2.
+pub const SEGMENT_BYTES: usize = 30;
 
 // Whether the edition exists.
 pub fn edition_ok(e: u8) -> bool
@@ -36,7 +44,7 @@ pub fn extra_of(e: u8) -> usize
 pub fn frame_bytes(e: u8) -> usize
     ensures { λ r. ⌜ FrameSize e r ⌝ }
 {
-    fields::SEGMENT_BYTES + extra_of(e)
+    SEGMENT_BYTES + extra_of(e)
 }
 
 // The longest length of a segment.

@@ -20,11 +20,7 @@ pub const SEGMENTS: usize = 4;
 // The bytes of a head's line: two digits for a byte, and 0A.
 pub const HEAD_LINE: usize = 2 * HEAD_BYTES + 1;
 
-// ---- Segment: its bytes where its length has 2, and the most that it has in any edition.
-pub const SEGMENT_BYTES: usize = 30;
-
-pub const MOST_BYTES: usize = 32;
-
+// ---- Segment
 pub const NODE_A: usize = 1;
 
 pub const LEG_A: usize = 3;
@@ -37,6 +33,9 @@ pub const LEG_B: usize = 6;
 pub const END_BYTES: usize = 3;
 
 pub const FEET: usize = 7;
+
+// The bytes of a length, but for those that an edition's has beyond 2.
+pub const FEET_BYTES: usize = 2;
 
 // ---- After a segment's length: each stands further on by the bytes that an edition's length has beyond 2.
 pub const FORM: usize = 9;

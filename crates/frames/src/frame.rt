@@ -6,6 +6,7 @@ ghost use lib.ListN.{length};
 ghost use Rattle.frames.specs.Edition.{frameBytes};
 ghost use Rattle.frames.specs.Frame.{byte, word, total, feet};
 ghost use Rattle.frames.specs.Faults.{framed};
+use crate::edition::extra_of;
 use crate::fields;
 
 // A byte as a number that sums and products have room for.
@@ -26,10 +27,17 @@ pub fn word_at(f: &[u8], i: usize) -> usize
 
 // A segment's length in feet.
 pub fn feet_of(f: &[u8], e: u8) -> usize
-    requires { ⌜ (29 < length (now f)) × (frameBytes e ≤ length (now f)) ⌝ }
-    ensures { λ r. ⌜ (r ≡ feet e (now (f .entry))) × (r < 65536) ⌝ }
+    requires { ⌜ frameBytes e ≤ length (now f) ⌝ }
+    ensures { λ r. ⌜ (r ≡ feet e (now (f .entry))) × (r < 4294967296) ⌝ }
 {
-    word_at(f, fields::FEET)
+    let bytes = fields::FEET_BYTES + extra_of(e);
+    let mut feet = word_at(f, fields::FEET);
+    let mut read: usize = fields::FEET_BYTES;
+    while read < bytes {
+        feet = feet * 256 + byte_at(f, fields::FEET + read);
+        read += 1;
+    }
+    feet
 }
 
 // The sum of a frame's bytes modulo 256, which a right check makes 0.

@@ -5,6 +5,7 @@ pub mod edition;
 pub mod fields;
 pub mod frame;
 pub mod ranges;
+pub mod sizes;
 
 // What a head says: the edition, the nodes N and the segments S.
 pub struct Head {

@@ -2,9 +2,10 @@
 ghost use Prim.Native.Nat.{_+_, _≤_, _<_};
 ghost use mathlib.Core.Path.{_≡_};
 ghost use lib.ListN.{length};
-ghost use Rattle.frames.specs.Edition.{frameBytes};
+ghost use Rattle.frames.specs.Edition.{segmentBytes, frameBytes};
 ghost use Rattle.frames.specs.Frame.{headBytes};
 ghost use Rattle.frames.specs.Ranges.{headOk, endsOk, formOk, crossingOk, turnLaneOk, approachOk, streetOk};
+use crate::edition::MOST_TURN_FEET;
 use crate::edition::crosses_nothing;
 use crate::edition::edition_ok;
 use crate::edition::extra_of;
@@ -30,7 +31,7 @@ pub fn head_ok(h: &[u8]) -> bool
 
 // Both ends stand at a node below n, on a leg of it.
 pub fn ends_ok(f: &[u8], n: usize) -> bool
-    requires { ⌜ 29 < length (now f) ⌝ }
+    requires { ⌜ segmentBytes ≤ length (now f) ⌝ }
     ensures { λ r. ⌜ r ≡ endsOk n (now (f .entry)) ⌝ }
 {
     (word_at(f, fields::NODE_A) < n)
@@ -88,7 +89,7 @@ fn turn_lane_ok(f: &[u8], i: usize) -> bool
     if kind == 0 {
         return (feet == 0) & (speed == 0);
     }
-    (kind <= 3) & ((1 <= feet) & (feet <= 2000)) & ((5 <= speed) & (speed <= 85))
+    (kind <= 3) & ((1 <= feet) & (feet <= MOST_TURN_FEET)) & ((5 <= speed) & (speed <= 85))
 }
 
 // The approach at place i of a frame.

@@ -5,6 +5,7 @@ use Prim.Native.Nat.{ℕ, zero, suc, _+_, _*_, _≤_}
 use native.Mathlib.Nat.{add-zero, zero-add}
 use native.Mathlib.Numerals.{add-one}
 use native.Mathlib.Omega.{arith}
+use mathlib.Core.Bool.{true}
 use mathlib.Core.Path.{_≡_, refl, sym, _∙_, ap}
 use mathlib.Core.List.{List, [], _∷_, _++_, append-assoc, append-nil}
 use lib.ListN.{length, take, length-append}
@@ -12,10 +13,12 @@ use Rattle.refusals.specs.declared.Refusal.{Refusal}
 use Rattle.refusals.specs.Numbers.{numberOf}
 use Rattle.text.specs.declared.ReadAnswer.{ReadAnswer}
 use Rattle.text.specs.declared.ReadAnswer.the-variants.{Refused, Kept}
-use Rattle.frames.specs.Edition.{extra, frameBytes, mostSegments}
 use Rattle.text.specs.Read.{Reading, readOf, refused, kept}
 use Rattle.text.specs.Told.{refusal, told, toldOf, ReadDid}
-use Rattle.network.specs.Network.{segmentsOf}
+use Rattle.frames.specs.Edition.{mostSegments}
+use Rattle.frames.specs.Steps.Sizes.{townSize}
+use Rattle.network.specs.Network.{segmentsOf, isNetwork}
+use Rattle.network.proofs.NetworkLaws.{passed}
 use Rattle.text.specs.Samples.{characters}
 use Rattle.stress.specs.declared.segment.Grade.{Grade}
 use Rattle.streets.specs.Bicycle.{segmentGrade}
@@ -104,6 +107,11 @@ refusal-wrote number line U W X room =
       omega (arith, X .end, W .end, U .end, field-length number 32, field-length line 10),
     )
 
+-- the slice has room for the lines of a town, and no edition that exists has a larger network
+pub page-enough : (net : List ℕ) → isNetwork net ≡ true → segmentsOf net ≤ townSize
+unfolding mostSegments
+page-enough net is = omega (arith, passed net is .limits .segments-most)
+
 -- ---- what Read told
 told-refused : (reading : Reading) (number at : ℕ) → refusal number at ≡ toldOf reading → reading ≡ refused number at
 told-refused (refused number′ at′) number at e = cc
@@ -111,34 +119,30 @@ told-refused (kept bytes) number at e =
     let z : _≡_ {A = ℕ} 0 1 = cc in
     absurd (omega arith)
 
-room-is : levelsRoom ≡ 30007
-unfolding frameBytes extra mostSegments
-room-is = refl
-
 -- what was written from the front lies inside
 inside : {xs before after : List ℕ} {next : ℕ} → Wrote 0 xs before after next → next ≤ 65536 → 65536 ≤ length before → next ≤ length after
 inside W l long = omega (arith, W .end, wrote-length W (omega (arith, W .end)))
 
 -- a refusal prints its line
 pub prints-refusal : {text before after net₀ net : List ℕ} {fault : Refusal} {line count : ℕ} {answer : ReadAnswer} → answer ≡ Refused fault line
-    → ReadDid text net₀ net answer → length net₀ ≡ 30007 → Wrote 0 (refusedLine (numberOf fault) line) before after count → count ≤ 65536
+    → ReadDid text net₀ net answer → length net₀ ≡ levelsRoom → Wrote 0 (refusedLine (numberOf fault) line) before after count → count ≤ 65536
     → 65536 ≤ length before
     → PrintsLevels text before after count
 unfolding levelsOf
 prints-refusal {text} {before} {after} {net₀} {net} {fault} {line} {count} {answer} e D n W l long =
     let told-is : refusal (numberOf fault) line ≡ toldOf (readOf text (length net₀)) = sym (ap told e) ∙ D .answer in
     let reading = told-refused (readOf text (length net₀)) (numberOf fault) line told-is in
-    let same : readOf text levelsRoom ≡ refused (numberOf fault) line = rw (room-is, sym n) reading in
+    let same : readOf text levelsRoom ≡ refused (numberOf fault) line = rw (sym n) reading in
     record { text-printed = rw same (W .text); count-printed = rw same (W .end ∙ zero-add (length (refusedLine (numberOf fault) line))); fits = inside W l long }
 
 -- an acceptance prints the lines of its network
 pub prints-levels : {text before after net₀ net : List ℕ} {count printed : ℕ} {answer : ReadAnswer} → answer ≡ Kept count → ReadDid text net₀ net answer
-    → length net₀ ≡ 30007 → Wrote 0 (levelLines (take count net) 0 (segmentsOf (take count net))) before after printed → printed ≤ 65536
+    → length net₀ ≡ levelsRoom → Wrote 0 (levelLines (take count net) 0 (segmentsOf (take count net))) before after printed → printed ≤ 65536
     → 65536 ≤ length before
     → PrintsLevels text before after printed
 unfolding levelsOf
 prints-levels {text} {before} {after} {net₀} {net} {count} {printed} e D n W l long =
-    let same : readOf text levelsRoom ≡ kept (take count net) = rw (room-is, sym n) (kept-front e D .2) in
+    let same : readOf text levelsRoom ≡ kept (take count net) = rw (sym n) (kept-front e D .2) in
     record {
       text-printed = rw same (W .text);
       count-printed = rw same (W .end ∙ zero-add (length (levelLines (take count net) 0 (segmentsOf (take count net)))));

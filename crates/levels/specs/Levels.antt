@@ -1,12 +1,11 @@
 -- Document 01, "Starred and plain examples": program levels prints for each segment its number, level and measure, decimal, one space between, each line
 -- ended by byte 0A, no header; for a refusal one such line: "refused", number, line.
 -- Assumes nothing.
-use Prim.Native.Nat.{ℕ, zero, suc, _+_, _*_, _≤_}
+use Prim.Native.Nat.{ℕ, zero, suc, _+_, _≤_}
 use mathlib.Core.Path.{_≡_}
 use mathlib.Core.List.{List, [], _∷_, _++_}
 use lib.ListN.{length}
-use Rattle.frames.specs.Edition.{mostSegments, frameBytes}
-use Rattle.frames.specs.Frame.{headBytes}
+use Rattle.frames.specs.Edition.{mostKept}
 use Rattle.text.specs.Read.{Reading, readOf, refused, kept}
 use Rattle.network.specs.Network.{segmentsOf}
 use Rattle.lists.specs.Placed.{placed}
@@ -36,9 +35,9 @@ levelLines net s (suc left) = levelLine net s ++ levelLines net (s + 1) left
 unfoldable pub refusedLine : ℕ → ℕ → List ℕ
 refusedLine number at = characters "refused " ++ (inDecimal number ++ space) ++ (inDecimal at ++ lineEnd)
 
--- Read is lent an output in which every network of edition 01 fits.
+-- Read is lent an output in which every network fits.
 abbrev pub levelsRoom : ℕ
-levelsRoom = headBytes + frameBytes 1 * mostSegments 1
+levelsRoom = mostKept
 
 abbrev pub levelsTold : Reading → List ℕ
 levelsTold (refused number at) = refusedLine number at

@@ -8,7 +8,8 @@ ghost use Rattle.network.specs.Network.{segmentsOf, isNetwork};
 ghost use Rattle.refusals.specs.Numbers.{numberOf};
 ghost use Rattle.streets.specs.Steps.Places.{SegmentOf};
 ghost use Rattle.printing.specs.Steps.Wrote.{Wrote};
-ghost use Rattle.levels.specs.Levels.{inDecimal, levelLine, levelLines, refusedLine, PrintsLevels};
+ghost use Rattle.levels.specs.Levels.{inDecimal, levelLine, levelLines, refusedLine, levelsRoom, PrintsLevels};
+use frames::edition;
 use printing::put_byte;
 use printing::put_bytes;
 use printing::put_number;
@@ -75,9 +76,9 @@ pub fn levels(text: &[u8], out: &mut [u8; 65536]) -> usize
     }
 }
 
-// Bytes in which every network of the format fits.
-fn room() -> [u8; 30007]
-    ensures { λ r. ⌜ length r ≡ 30007 ⌝ }
+// Bytes in which every network fits.
+fn room() -> [u8; edition::MOST_KEPT]
+    ensures { λ r. ⌜ length r ≡ levelsRoom ⌝ }
 {
-    [0u8; 30007]
+    [0u8; edition::MOST_KEPT]
 }

@@ -37,12 +37,12 @@ pub record Going (net : List ℕ) (head : Head) (s at : ℕ) (d : List ℕ) : Ty
   pub limited : Limited head
   pub place : at ≡ 7 + frameBytes (head .edition) * s
   pub long : length net ≡ 7 + frameBytes (head .edition) * head .segments
-  pub indexed : Indexed taken d
+  pub indexed : Indexed (head .nodes) taken d
   pub tests : framesOk (head .edition) (head .nodes) (head .segments - s) taken (drop at net)
       ≡ framesOk (head .edition) (head .nodes) (head .segments) [] (drop 7 net)
   pub corners : cornersFrom (head .edition) (head .segments - s) taken (drop at net) ≡ cornersFrom (head .edition) (head .segments) [] (drop 7 net)
 
-pub starts : {net : List ℕ} {head : Head} {d : List ℕ} → Limited head → length net ≡ 7 + frameBytes (head .edition) * head .segments → Indexed [] d
+pub starts : {net : List ℕ} {head : Head} {d : List ℕ} → Limited head → length net ≡ 7 + frameBytes (head .edition) * head .segments → Indexed (head .nodes) [] d
     → Going net head 0 7 d
 starts {net} {head} p l x =
     record {
@@ -68,7 +68,7 @@ module _ {net : List ℕ} {head : Head} {s at : ℕ} {d : List ℕ} (w : Going n
       → eqb (segmentFault (head .edition) (head .nodes) true (w .taken) (take (frameBytes (head .edition)) (drop at net))) 0 ≡ r
   tested {d′} {r} m q g =
       subst (λ (x : ℕ). eqb (segmentFault (head .edition) (head .nodes) true (w .taken) (take x (drop at net))) 0 ≡ r) q
-      (ap (λ (x : ℕ). eqb x 0) (sym (index-fault (w .indexed) (head .edition) (head .nodes) true (take m (drop at net)) (w .limited .few-nodes))) ∙ sym (g .answer))
+      (ap (λ (x : ℕ). eqb x 0) (sym (index-fault (w .indexed) (head .edition) true (take m (drop at net)))) ∙ sym (g .answer))
 
   pub fails : {d′ : List ℕ} {r : Bool} (m : ℕ) → s < head .segments → m ≡ frameBytes (head .edition) → SegmentChecked (take m (drop at net)) head s d d′ r → r ≡ false
       → FramesChecked head (drop 7 net) d′ false
@@ -84,7 +84,7 @@ module _ {net : List ℕ} {head : Head} {s at : ℕ} {d : List ℕ} (w : Going n
       let f : List ℕ = take (frameBytes (head .edition)) (drop at net) in
       let z : head .segments - s ≡ suc (head .segments - (s + 1)) = omega arith in
       let t : eqb (segmentFault (head .edition) (head .nodes) true (w .taken) f) 0 ≡ true = tested m q g ∙ x in
-      let o = corners-few (head .nodes) f (w .limited .few-nodes) (faultless (head .edition) (head .nodes) true (w .taken) f (eqb-true _ _ t) .follows .ends) in
+      let o = corners-few (head .nodes) f (faultless (head .edition) (head .nodes) true (w .taken) f (eqb-true _ _ t) .follows .ends) in
       let y : d′ ≡ claimed d s f = g .index x ∙ ap (λ (i : ℕ). claimed d s (take i (drop at net))) q in
       let b : drop (frameBytes (head .edition)) (drop at net) ≡ drop (at + frameBytes (head .edition)) net = drop-drop (frameBytes (head .edition)) at net in
       record {
@@ -94,7 +94,7 @@ module _ {net : List ℕ} {head : Head} {s at : ℕ} {d : List ℕ} (w : Going n
         limited = w .limited;
         place = omega (arith, w .place, times-next (frameBytes (head .edition)) s);
         long = w .long;
-        indexed = subst (λ (i : List ℕ). Indexed (taking (w .taken) f) i) (sym y) (claimed-indexed (w .indexed) s f (w .runs) (o .0) (o .1));
+        indexed = subst (λ (i : List ℕ). Indexed (head .nodes) (taking (w .taken) f) i) (sym y) (claimed-indexed (w .indexed) s f (w .runs) (o .0) (o .1));
         tests = sym (rw (z, framesOk, t, b)) ∙ w .tests;
         corners = sym (rw (z, cornersFrom, b)) ∙ w .corners;
       }
@@ -105,7 +105,7 @@ module _ {net : List ℕ} {head : Head} {s at : ℕ} {d : List ℕ} (w : Going n
       let z : head .segments - s ≡ 0 = omega arith in
       record {
         answer = sym (rw (z, framesOk)) ∙ w .tests;
-        index = λ t. subst (λ (i : List ℕ). Indexed i d) (sym (rw (z, cornersFrom)) ∙ w .corners) (w .indexed);
+        index = λ t. subst (λ (i : List ℕ). Indexed (head .nodes) i d) (sym (rw (z, cornersFrom)) ∙ w .corners) (w .indexed);
       }
 
 -- ---- the whole test, from the head's

@@ -3,3 +3,4 @@ pub mod FaultLaws
 pub mod FramesChecked
 pub mod LegLaws
 pub mod NetworkLaws
+pub mod SizeLaws

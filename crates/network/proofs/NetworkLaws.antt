@@ -113,7 +113,7 @@ frame-word net s i h =
 
 -- ---- corners
 -- a leg of a node is one corner, and a corner is one leg of one node
-pub corner-below : (node leg : ℕ) → node < 1000 → leg ≤ 7 → corner node leg < 8000
+pub corner-below : {n : ℕ} (node leg : ℕ) → node < n → leg ≤ 7 → corner node leg < n * 8
 corner-below node leg p q = omega arith
 
 pub corner-same : (node leg node′ leg′ : ℕ) → leg ≤ 7 → leg′ ≤ 7 → corner node leg ≡ corner node′ leg′ → (node ≡ node′) × (leg ≡ leg′)

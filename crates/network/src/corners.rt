@@ -1,26 +1,34 @@
 // The corner index: for each leg of each node, 0 while it is free, else 1 + the run that leaves by it.
-ghost use mathlib.Core.List.{[]};
-ghost use Rattle.network.specs.Steps.Corners.{Indexed};
+ghost use Rattle.frames.specs.Steps.Sizes.{townSize, countySize};
+ghost use Rattle.network.specs.Steps.Corners.{NoCorners};
 ghost use Rattle.network.specs.Steps.Checks.{Claimable, Claimed};
 use frames::fields;
 use frames::frame::byte_at;
 use frames::frame::word_at;
+use frames::sizes;
 
-// Eight legs for each of 1,000 nodes.
-pub const MOST_CORNERS: usize = 8000;
+// Eight legs for each node.
+const TOWN_CORNERS: usize = 8 * sizes::TOWN;
 
-pub type CornerIndex = [u16; MOST_CORNERS];
+const COUNTY_CORNERS: usize = 8 * sizes::COUNTY;
 
-// An index with every leg free.
-pub fn no_corners() -> CornerIndex
-    ensures { λ r. ⌜ Indexed [] r ⌝ }
+// An index with every leg free, for a town.
+pub fn town_corners() -> [u16; TOWN_CORNERS]
+    ensures { λ r. ⌜ NoCorners townSize r ⌝ }
 {
-    [0u16; MOST_CORNERS]
+    [0u16; TOWN_CORNERS]
+}
+
+// The same for any network.
+pub fn county_corners() -> [u16; COUNTY_CORNERS]
+    ensures { λ r. ⌜ NoCorners countySize r ⌝ }
+{
+    [0u16; COUNTY_CORNERS]
 }
 
 // Takes both legs of segment s where they are free and not one leg; else it leaves the index as it was.
-pub fn claim_legs(f: &[u8], s: usize, index: &mut CornerIndex) -> bool
-    requires { ⌜ Claimable (now f) s ⌝ }
+pub fn claim_legs(f: &[u8], s: usize, index: &mut [u16]) -> bool
+    requires { ⌜ Claimable (now f) s (now index) ⌝ }
     ensures { λ r. ⌜ Claimed (now (f .entry)) s (now (index .entry)) (now (index .exit)) r ⌝ }
 {
     let a = word_at(f, fields::NODE_A) * 8 + byte_at(f, fields::LEG_A);

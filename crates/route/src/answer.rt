@@ -1,8 +1,10 @@
 // The answer to a request, whole on a page.
 ghost use mathlib.Core.Path.{_≡_};
 ghost use mathlib.Core.Bool.{true};
-ghost use Prim.Native.Nat.{_≤_};
+ghost use Prim.Native.Nat.{_*_, _≤_};
 ghost use lib.ListN.{length};
+ghost use Rattle.frames.specs.Edition.{mostKept};
+ghost use Rattle.frames.specs.Steps.Sizes.{townSize};
 ghost use Rattle.network.specs.Network.{isNetwork};
 ghost use Rattle.routes.specs.Routes.{Route};
 ghost use Rattle.streets.specs.Bicycle.{bicycle};
@@ -16,30 +18,34 @@ use crate::show::put_refused;
 use crate::show::put_refused_line;
 use crate::show::put_runs;
 use crate::show::put_summary;
+use frames::edition;
+use frames::sizes;
 use splicereel::least_stress::LeastAnswer;
 use splicereel::least_stress::least_stress;
 use splicereel::route::RouteAnswer;
 use splicereel::route::route;
 use text::ReadAnswer;
 
-// Bytes in which every network of the format fits.
-fn room() -> [u8; 30007]
-    ensures { λ r. ⌜ length r ≡ 30007 ⌝ }
+// Bytes in which every network fits.
+fn room() -> [u8; edition::MOST_KEPT]
+    ensures { λ r. ⌜ length r ≡ mostKept ⌝ }
 {
-    [0u8; 30007]
+    [0u8; edition::MOST_KEPT]
 }
 
-// A number for each run of the largest network, as scratch and as the route's buffer.
-fn scratch() -> [u32; 2000]
-    ensures { λ r. ⌜ length r ≡ 2000 ⌝ }
+// A number for each run of a town, as scratch and as the route's buffer.
+const RUNS: usize = 2 * sizes::TOWN;
+
+fn scratch() -> [u32; RUNS]
+    ensures { λ r. ⌜ length r ≡ 2 * townSize ⌝ }
 {
-    [0u32; 2000]
+    [0u32; RUNS]
 }
 
-fn route_buffer() -> [u16; 2000]
-    ensures { λ r. ⌜ length r ≡ 2000 ⌝ }
+fn route_buffer() -> [u16; RUNS]
+    ensures { λ r. ⌜ length r ≡ 2 * townSize ⌝ }
 {
-    [0u16; 2000]
+    [0u16; RUNS]
 }
 
 pub fn answer(text: &[u8], from: usize, to: usize, limit: Limit, page: &mut [u8; PAGE]) -> usize
@@ -137,7 +143,7 @@ fn put_found(
     level: u8,
     page: &mut [u8; PAGE],
 ) -> usize
-    requires { ⌜ (isNetwork (now net) ≡ true) × (length (now note) ≤ 30) × (length (now runs) ≤ 2000) × Route (bicycle (now net)) from to (now runs) ⌝ }
+    requires { ⌜ (isNetwork (now net) ≡ true) × (length (now note) ≤ 30) × (length (now runs) ≤ 2 * townSize) × Route (bicycle (now net)) from to (now runs) ⌝ }
     ensures { λ r. ⌜ r ≤ pageSize ⌝ }
 {
     let mut at = put_ends(from, to, 0, page);

@@ -6,7 +6,7 @@ ghost use Rattle.printing.specs.Steps.Wrote.{Wrote};
 ghost use Rattle.route.specs.Page.{pageSize, Spelled};
 use printing::put_bytes;
 
-// Room for the longest answer, a route of 2,000 runs.
+// Room for the longest answer, a route over all runs of a town.
 pub const PAGE: usize = 524288;
 
 pub fn page() -> [u8; PAGE]

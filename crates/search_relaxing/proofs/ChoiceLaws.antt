@@ -15,7 +15,8 @@ use lib.Seq.{set-getD}
 use borrow.Author.Tests.{eqb-true, eqb-false, leb-true}
 use Rattle.lists.specs.Lists.{at}
 use Rattle.routes.specs.Steps.Labels.{unlabelled, edgeOf}
-use Rattle.network.specs.Steps.Corners.{cornersOf, Indexed}
+use Rattle.frames.specs.Steps.Sizes.{countyFeet}
+use Rattle.network.specs.Steps.Corners.{IndexOf}
 use Rattle.streets.specs.Runs.{start, finish, arrivalLeg, feetOf}
 use Rattle.streets.specs.Exits.{exitFrom, rightHandExit}
 use Rattle.streets.specs.Steps.Places.{usedIn}
@@ -25,7 +26,7 @@ use Rattle.search_labels.specs.Steps.Search.{Settling}
 use Rattle.search_labels.proofs.Queueing.{settling-spent}
 use Rattle.search_relaxing.specs.declared.relax.Reached.{Reached}
 use Rattle.search_relaxing.specs.declared.relax.Choice.{Choice}
-use Rattle.search_relaxing.specs.Steps.Town.{mostRunFeet, Town}
+use Rattle.search_relaxing.specs.Steps.Counted.{Counted}
 use Rattle.search_relaxing.specs.Steps.Unfound.{nothing, Unfound, spentOf, Arrives, EveryExit, RightOnly, Way, Spread}
 use Rattle.search_relaxing.specs.Steps.Choice.{noLegs, rightLeg, everyLeg, entryAfter, Rest, same, others, last, turned, Chosen}
 use Rattle.search_relaxing.specs.Steps.Choice.{BackLabelled, unasked, labelled}
@@ -33,7 +34,7 @@ use Rattle.search_relaxing.proofs.TestLaws.{edge-onward, right-by, turn
 use Rattle.search_relaxing.proofs.UnfoundLaws.{none-unfound, right-exit, right-at, right-way, other-way, others-at, others-way, last-at, last-own}
 use Rattle.search_relaxing.proofs.UnfoundLaws.{spread-edges, spread-back, noted-same, noted-others, noted-last}
 
-module _ {net index : List ℕ} {n u node leg : ℕ} (T : Town net n) (I : Indexed (cornersOf net) index) (A : Arrives net u node leg) where
+module _ {net index : List ℕ} {n u node leg : ℕ} (T : Counted net n) (I : IndexOf net index) (A : Arrives net u node leg) where
   -- no edge leads to a run without a label
   stays : {t : ℕ} {unfound : List ℕ}
       → ((best : List ℕ) → Unfound net t n best unfound → (r : ℕ) → r < n → unlabelled ≤ at best r → edgeOf (bicycle net) t u r ≡ true → ⊥)
@@ -137,10 +138,10 @@ module _ {net index : List ℕ} {n u node leg : ℕ} (T : Town net n) (I : Index
       go false p = again (eqb-false (at unfound node) 0 p) (eqb (at unfound node - 1) leg) refl
 
 -- ---- after the legs are offered
-module _ {net index : List ℕ} {t n : ℕ} {here : Reached} {best previous best₁ previous₁ tree₁ best₂ previous₂ unfound : List ℕ} (T : Town net n)
-    (I : Indexed (cornersOf net) index) (A : Arrives net (here .run) (here .node) (here .leg)) (U : Unfound net t n best unfound)
+module _ {net index : List ℕ} {t n : ℕ} {here : Reached} {best previous best₁ previous₁ tree₁ best₂ previous₂ unfound : List ℕ} (T : Counted net n)
+    (I : IndexOf net index) (A : Arrives net (here .run) (here .node) (here .leg)) (U : Unfound net t n best unfound)
     (R : Relaxed (edgeOf (bicycle net) t) (feetOf net) n (here .run) (here .label) best previous best₁ previous₁)
-    (S : Settling n mostRunFeet (here .run) (here .label) (spentOf net unfound) best₁ previous₁ tree₁) where
+    (S : Settling n countyFeet (here .run) (here .label) (spentOf net unfound) best₁ previous₁ tree₁) where
   unmoved : {back : Bool} → back ≡ false → BackLabelled net index here best₁ previous₁ best₂ previous₂ back
       → (best₂ ≡ best₁) × (previous₂ ≡ previous₁)
   unmoved z (unasked b e e′) = (e, e′)

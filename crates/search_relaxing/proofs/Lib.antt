@@ -1,4 +1,4 @@
-pub mod TownLaws
+pub mod CountedLaws
 pub mod TestLaws
 pub mod UnfoundLaws
 pub mod ChoiceLaws

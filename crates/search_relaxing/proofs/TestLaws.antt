@@ -19,9 +19,9 @@ use Rattle.streets.specs.Runs.{start, finish, leavingLeg, arrivalLeg, isOpen, j
 use Rattle.streets.specs.Exits.{rightHandExit}
 use Rattle.streets.specs.Bicycle.{bicycle, arrivalTurnLevel, arrivalCrossingLevel, runLevel, movementLevel}
 use Rattle.streets.specs.Steps.Leaving.{Leaves, Entry}
-use Rattle.search_relaxing.specs.Steps.Town.{Town, usable}
+use Rattle.search_relaxing.specs.Steps.Counted.{Counted, usable}
 use Rattle.search_relaxing.specs.Steps.Unfound.{Arrives, EveryExit, RightOnly, Way, turnsBack}
-use Rattle.search_relaxing.proofs.TownLaws.{run-behind}
+use Rattle.search_relaxing.proofs.CountedLaws.{run-behind}
 
 pub source-usable : {net : List ℕ} {node leg r : ℕ} → Leaves net node leg r → (t : ℕ) → usable (bicycle net) t r ≡ sourceOf (bicycle net) t node r
 unfolding usable sourceOf
@@ -111,7 +111,7 @@ pub every-edge : {net : List ℕ} {t u : ℕ} → EveryExit net t u → (r : ℕ
     → usable (bicycle net) t r ≡ edgeOf (bicycle net) t u r
 every-edge {net} {t} {u} every r from apart = edge-usable net t u r from apart (omega (arith, level-either net u r, every .across))
 
-module _ {net : List ℕ} {n u node leg exit entry : ℕ} (T : Town net n) (A : Arrives net u node leg) (E : Entry net node exit entry) (apart : exit ≡ leg → ⊥) where
+module _ {net : List ℕ} {n u node leg exit entry : ℕ} (T : Counted net n) (A : Arrives net u node leg) (E : Entry net node exit entry) (apart : exit ≡ leg → ⊥) where
   leaves-node : (r : ℕ) → entry ≡ r + 1 → start net r ≡ finish net u
   leaves-node r e = E .leaving r e .from ∙ A .at-node .is
 

@@ -16,7 +16,9 @@ use lib.Seq.{getD-set-same, getD-set-other}
 use borrow.Author.Tests.{ne-eqb, eqb-false, le-leb, leb-true}
 use Rattle.routes.specs.Steps.Labels.{unlabelled, edgeOf}
 use Rattle.lists.proofs.Facts.{and-true, true-and, or-true, or-right, lt-or-ge, eq-or-ne}
-use Rattle.network.specs.Steps.Corners.{cornersOf, Indexed}
+use Rattle.frames.specs.Steps.Sizes.{countyFeet}
+use Rattle.network.specs.Network.{nodesOf}
+use Rattle.network.specs.Steps.Corners.{IndexOf}
 use Rattle.lists.specs.Lists.{at}
 use Rattle.streets.specs.Runs.{start, finish, leavingLeg, arrivalLeg, feetOf}
 use Rattle.streets.specs.Exits.{exitFrom, rightHandExit}
@@ -27,14 +29,14 @@ use Rattle.streets.proofs.MovementLaws.{exit-is}
 use Rattle.streets.specs.Steps.Leaving.{Entry}
 use Rattle.search_labels.specs.Steps.Relax.{Visit, barred, Offer, Relaxed, kept, labelled, free, leads}
 use Rattle.search_labels.specs.Steps.Begin.{firstLabel, Begun}
-use Rattle.search_relaxing.specs.Steps.Town.{arrivesAt, mostRunFeet, Town, townGraph, usable}
+use Rattle.search_relaxing.specs.Steps.Counted.{arrivesAt, Counted, runGraph, usable}
 use Rattle.search_labels.specs.Steps.Search.{Spent, Settling}
 use Rattle.search_relaxing.specs.Steps.Unfound.{nothing}
 use Rattle.search_relaxing.specs.Steps.Unfound.{Unknown, Unfound, spentOf, Noted, Arrives, EveryExit, RightOnly, RunBehind, toEach, Way, turnsBack, leadsOf, Spread}
 use Rattle.search_labels.proofs.Queueing.{settling-spent, settling-without}
 use Rattle.search_labels.proofs.Exits.{offer-as, relaxed-one, relaxed-as, relaxed-both}
-use Rattle.streets.proofs.LeavingLaws.{node-small, start-below, leaving-below, entry-leaves, leaving-at, back-ends}
-use Rattle.search_relaxing.proofs.TownLaws.{run-of, fair, run-behind}
+use Rattle.streets.proofs.LeavingLaws.{start-below, leaving-below, entry-leaves, leaving-at, back-ends}
+use Rattle.search_relaxing.proofs.CountedLaws.{run-of, fair, run-behind}
 use Rattle.search_relaxing.proofs.TestLaws.{source-usable, edge-onward, turns-back, is-back, right-by, every-edge, way-every, way-right}
 
 -- a run that arrives where nothing is to find
@@ -49,8 +51,8 @@ unfolding arrivesAt
 noted-elsewhere {net} {u = u} N to away z = N .elsewhere to (λ (e : to ≡ finish net u). eqb-false (finish net u) to away (sym e)) ∙ z
 
 -- and at first, where nothing is noted but at the start, of any other node
-pub unfound-apart : (from : ℕ) {to : ℕ} {unfound : List ℕ} → Unknown unfound → (from ≡ to → ⊥) → to < 1000 → at (set unfound from nothing) to ≡ 0
-unfound-apart from {to} {unfound} U apart few = getD-set-other unfound from to nothing 0 (λ (e : to ≡ from). apart (sym e)) ∙ U .none to few
+pub unfound-apart : (from : ℕ) {nodes to : ℕ} {unfound : List ℕ} → Unknown nodes unfound → (from ≡ to → ⊥) → to < nodes → at (set unfound from nothing) to ≡ 0
+unfound-apart from {nodes} {to} {unfound} U apart few = getD-set-other unfound from to nothing 0 (λ (e : to ≡ from). apart (sym e)) ∙ U .none to few
 
 -- ---- edges and ways back
 module _ (net : List ℕ) (t : ℕ) (back : Bool) (u r : ℕ) where
@@ -63,7 +65,7 @@ module _ (net : List ℕ) (t : ℕ) (back : Bool) (u r : ℕ) where
 -- no way back is relaxed
 pub spread-edges : {net : List ℕ} {t n u base : ℕ} {best previous unfound best′ previous′ tree′ unfound′ : List ℕ}
     → Relaxed (edgeOf (bicycle net) t) (feetOf net) n u base best previous best′ previous′
-    → Settling n mostRunFeet u base (spentOf net unfound′) best′ previous′ tree′ → Noted net t n u best′ unfound unfound′
+    → Settling n countyFeet u base (spentOf net unfound′) best′ previous′ tree′ → Noted net t n u best′ unfound unfound′
     → Spread net t n u base best previous unfound best′ previous′ tree′ unfound′
 spread-edges {net} {t} {u = u} R S N =
     record {
@@ -93,9 +95,9 @@ module _ {net : List ℕ} {t n u base : ℕ} {best previous unfound best′ prev
       inr (S .only r l (h .0) (h .1)))
       (or-true (edgeOf (bicycle net) t u r) (S .back && turnsBack net u r) e)
 
-module _ {net : List ℕ} {n : ℕ} (T : Town net n) where
+module _ {net : List ℕ} {n : ℕ} (T : Counted net n) where
   -- at first every usable run that leaves the start has its label, and nothing is to find there
-  pub unfound-begun : (t from : ℕ) {best previous unfound : List ℕ} → Unknown unfound → Begun (townGraph net n t from) best previous
+  pub unfound-begun : (t from : ℕ) {best previous unfound : List ℕ} → Unknown (nodesOf net) unfound → Begun (runGraph net n t from) best previous
       → Unfound net t n best (set unfound from nothing)
   unfolding firstLabel
   unfound-begun t from {best} {previous} {unfound} U B =
@@ -111,7 +113,7 @@ module _ {net : List ℕ} {n : ℕ} (T : Town net n) where
             absurd
             (said
             (getD-set-other unfound from (start net r) nothing 0 e
-            ∙ U .none (start net r) (node-small net (T .network) (start-below (run-of T l))))))
+            ∙ U .none (start net r) (start-below (run-of T l)))))
             (eq-or-ne (start net r) from);
       }
 
@@ -125,7 +127,7 @@ module _ {net : List ℕ} {n : ℕ} (T : Town net n) where
 
   -- what the theory of the search asks of spent runs
   pub unfound-spent : {t : ℕ} {best unfound : List ℕ} (from to : ℕ) → Unfound net t n best unfound → at unfound to ≡ 0
-      → Spent (townGraph net n t from) (arrivesAt (bicycle net) to) (spentOf net unfound) best
+      → Spent (runGraph net n t from) (arrivesAt (bicycle net) to) (spentOf net unfound) best
   unfolding spentOf arrivesAt
   unfound-spent {t} {best} {unfound} from to L z =
       record {
@@ -153,7 +155,7 @@ module _ {net : List ℕ} {n : ℕ} (T : Town net n) where
 
   -- ---- a round at the run u
   module _ {t u base node leg : ℕ} {leads : ℕ → ℕ → Bool} {best previous best′ previous′ unfound : List ℕ} (A : Arrives net u node leg)
-      (L : Unfound net t n best unfound) (R : Relaxed leads (feetOf net) n u base best previous best′ previous′) (room : base + mostRunFeet < unlabelled) where
+      (L : Unfound net t n best unfound) (R : Relaxed leads (feetOf net) n u base best previous best′ previous′) (room : base + countyFeet < unlabelled) where
     -- a labelled run stays labelled
     stays : (r : ℕ) → r < n → at best r < unlabelled → at best′ r < unlabelled
     stays r l h = omega (arith, R .kept r l h .0)
@@ -179,7 +181,7 @@ module _ {net : List ℕ} {n : ℕ} (T : Town net n) where
                 labelled = λ r l s said other.
                     ⊎-elim
                     (λ (e : start net r ≡ node).
-                    let here : at (set unfound node x) (start net r) ≡ x = rw e (getD-set-same unfound node x 0 (omega (arith, A .at-node .few, L .long))) in
+                    let here : at (set unfound node x) (start net r) ≡ x = rw e (getD-set-same unfound node x 0 (omega (arith, A .at-node .below, L .long))) in
                     H r l s e (λ (k : leavingLeg net r + 1 ≡ x). other (here ∙ sym k)))
                     (λ (e : start net r ≡ node → ⊥).
                     let same = getD-set-other unfound node (start net r) x 0 e in
@@ -236,7 +238,7 @@ module _ {net : List ℕ} {n : ℕ} (T : Town net n) where
       noted-back too = noted-nothing (λ r l s from j. reached r l (too r (sym (is-back net u r (from ∙ A .at-node .is) (j ∙ A .by-leg .is)))))
 
   -- ---- at which entries the edges from u lead on
-  module _ {index : List ℕ} {u node leg : ℕ} (I : Indexed (cornersOf net) index) (A : Arrives net u node leg) where
+  module _ {index : List ℕ} {u node leg : ℕ} (I : IndexOf net index) (A : Arrives net u node leg) where
     onward-at : (t r : ℕ) {exit : ℕ} → r < n → edgeOf (bicycle net) t u r ≡ true → leavingLeg net r ≡ exit → at index (node * 8 + exit) ≡ r + 1
     onward-at t r l e by = leaving-at net (T .network) I (run-of T l) (edge-onward net t u r e .from ∙ sym (A .at-node .is)) by
 
@@ -296,14 +298,14 @@ module _ {net : List ℕ} {n : ℕ} (T : Town net n) where
 
     -- so it may be labelled after the edges, and stays out of the queue
     back-out : (unfound : List ℕ) {base came : ℕ} {best previous tree best′ previous′ : List ℕ} → came ≡ start net u → nothing ≤ at unfound came
-        → Settling n mostRunFeet u base (spentOf net unfound) best previous tree
+        → Settling n countyFeet u base (spentOf net unfound) best previous tree
         → Offer (turnsBack net) (feetOf net) u base (at index (node * 8 + leg)) best previous best′ previous′
-        → Settling n mostRunFeet u base (spentOf net unfound) best′ previous′ tree
+        → Settling n countyFeet u base (spentOf net unfound) best′ previous′ tree
     back-out unfound is none S (free z e e′) = rw (e, e′) S
     back-out unfound {base} {came} {best} {previous} {tree} {best′} {previous′} is none S (leads {r} v x) = visited v
       where
         visited : Visit (turnsBack net) (feetOf net) u base r best previous best′ previous′
-            → Settling n mostRunFeet u base (spentOf net unfound) best′ previous′ tree
+            → Settling n countyFeet u base (spentOf net unfound) best′ previous′ tree
         visited (kept h e e′) = rw (e, e′) S
         visited (barred h e e′) = rw (e, e′) S
         visited (labelled h s e e′) =
@@ -313,7 +315,7 @@ module _ {net : List ℕ} {n : ℕ} (T : Town net n) where
     pub spread-back : {t base came : ℕ} {best previous best₁ previous₁ tree₁ best₂ previous₂ unfound : List ℕ} → EveryExit net t u
         → Unfound net t n best unfound → at unfound node < nothing → came ≡ start net u → nothing ≤ at unfound came
         → Relaxed (edgeOf (bicycle net) t) (feetOf net) n u base best previous best₁ previous₁
-        → Settling n mostRunFeet u base (spentOf net unfound) best₁ previous₁ tree₁
+        → Settling n countyFeet u base (spentOf net unfound) best₁ previous₁ tree₁
         → Offer toEach (feetOf net) u base (at index (node * 8 + leg)) best₁ previous₁ best₂ previous₂
         → Spread net t n u base best previous unfound best₂ previous₂ tree₁ (set unfound node nothing)
     spread-back {t} {unfound = unfound} every L some is none R S₁ O =

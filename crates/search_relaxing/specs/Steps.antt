@@ -1,3 +1,3 @@
-pub mod Town
+pub mod Counted
 pub mod Unfound
 pub mod Choice

@@ -2,9 +2,10 @@
 pub mod relax;
 pub mod usable;
 
-// What a search is asked: over how many runs it goes, the tolerance, and the node that it begins at.
+// What a search is asked: over how many runs it goes, the least tolerance to try and the greatest, and the node that it begins at.
 pub struct Ask {
     pub runs: usize,
+    pub least: u8,
     pub tolerance: u8,
     pub from: usize,
 }

@@ -3,18 +3,19 @@
 // nothing is to find where that run came from, the run back there is of no use: it is labelled as if the bicycle could turn back, and never queued. Else
 // the next such arrival labels it. After that no arrival there finds anything, and a run that leads there need not be queued.
 ghost use mathlib.Core.Path.{_≡_};
-ghost use Prim.Native.Nat.{_<_};
+ghost use Prim.Native.Nat.{_≤_, _<_};
 ghost use lib.Dec.{leb};
+ghost use lib.ListN.{length};
 ghost use Rattle.lists.specs.Lists.{at};
+ghost use Rattle.network.specs.Network.{nodesOf};
 ghost use Rattle.streets.specs.Runs.{start};
 ghost use Rattle.streets.specs.Steps.Places.{RunOf};
-ghost use Rattle.search_relaxing.specs.Steps.Town.{Town, Ready};
-ghost use Rattle.search_relaxing.specs.Steps.Unfound.{nothing, Unknown, RunBehind};
-ghost use Rattle.search_relaxing.specs.Steps.Choice.{noLegs, rightLeg, everyLeg, Reaches, Chooses, Relaxing, Relaxable, LegRelaxed, EdgesRelaxed};
+ghost use Rattle.search_relaxing.specs.Steps.Counted.{Ready};
+ghost use Rattle.search_relaxing.specs.Steps.Unfound.{nothing};
+ghost use Rattle.search_relaxing.specs.Steps.Choice.{noLegs, rightLeg, everyLeg, Reaches, Chooses, Relaxable, Offerable, LegRelaxed, EdgesRelaxed};
 ghost use Rattle.search_relaxing.specs.Steps.Choice.{LabelRoom, BackLabelled, Spreads};
 use crate::Ask;
 use crate::usable::is_usable;
-use network::corners::CornerIndex;
 use search_labels::NONE;
 use search_labels::write_label;
 use streets::exits::right_hand_exit;
@@ -28,16 +29,6 @@ pub const NOTHING: u8 = 9;
 
 // The legs of a node but for the leg of arrival.
 const OTHERS: usize = 7;
-
-// A number for each node: what is still to find there.
-pub type Unfound = [u8; 1000];
-
-// Nothing is known of any node.
-pub fn all_unknown() -> Unfound
-    ensures { λ r. ⌜ Unknown r ⌝ }
-{
-    [0u8; 1000]
-}
 
 // A run that is being settled: its label, and the node and the leg where it arrives.
 pub struct Reached {
@@ -84,8 +75,8 @@ fn right_leg(exit: usize, leg: usize, rest: u8) -> Choice
 }
 
 // Where every movement is within the tolerance: onto the seven legs that are not the leg of arrival, or onto the one that is to find.
-fn every_leg(net: &[u8], here: Reached, rest: u8, unfound: &Unfound) -> Choice
-    requires { ⌜ RunOf (now net) (here .run) × (here .leg < 8) ⌝ }
+fn every_leg(net: &[u8], here: Reached, rest: u8, unfound: &[u8]) -> Choice
+    requires { ⌜ RunOf (now net) (here .run) × (here .leg < 8) × (nodesOf (now net) ≤ length (now unfound)) ⌝ }
     ensures { λ r. ⌜ r ≡ everyLeg (here .leg) rest (leb nothing (at (now (unfound .entry)) (start (now (net .entry)) (here .run)))) ⌝ }
 {
     let leg = here.leg;
@@ -118,8 +109,8 @@ fn every_leg(net: &[u8], here: Reached, rest: u8, unfound: &Unfound) -> Choice
 }
 
 // Onto which legs the edges from a run lead that may find a run without a label.
-fn choose(net: &[u8], index: &CornerIndex, ask: Ask, here: Reached, unfound: &Unfound) -> Choice
-    requires { ⌜ Ready (now net) (now index) ask × Reaches (now net) ask here ⌝ }
+fn choose(net: &[u8], index: &[u16], ask: Ask, here: Reached, unfound: &[u8]) -> Choice
+    requires { ⌜ Ready (now net) (now index) ask × Reaches (now net) ask here × (nodesOf (now net) ≤ length (now unfound)) ⌝ }
     ensures { λ r. ⌜ Chooses (now (net .entry)) (now (index .entry)) ask here (now (unfound .entry)) r ⌝ }
 {
     let node = here.node;
@@ -147,10 +138,9 @@ fn relax_leg(
     best: &mut [u32],
     previous: &mut [u32],
     tree: &mut [u64],
-    unfound: &Unfound,
+    unfound: &[u8],
 )
-    requires { ⌜ Town (now net) (ask .runs) × RunBehind (ask .runs) entry
-        × Relaxing (now net) ask here (now unfound) (now best) (now previous) (now tree) ⌝ }
+    requires { ⌜ Offerable (now net) ask here entry (now best) (now previous) (now tree) (now unfound) ⌝ }
     ensures { λ _. ⌜ LegRelaxed (now (net .entry)) ask here entry (now (unfound .entry)) (now (best .entry)) (now (previous .entry))
         (now (best .exit)) (now (previous .exit)) (now (tree .exit)) ⌝ }
 {
@@ -176,14 +166,14 @@ fn relax_leg(
 // Offers the legs that were chosen, one after the other.
 fn offer(
     net: &[u8],
-    index: &CornerIndex,
+    index: &[u16],
     ask: Ask,
     here: Reached,
     choice: Choice,
     best: &mut [u32],
     previous: &mut [u32],
     tree: &mut [u64],
-    unfound: &Unfound,
+    unfound: &[u8],
 )
     requires { ⌜ Relaxable (now net) (now index) ask here (now best) (now previous) (now tree) (now unfound)
         × Chooses (now net) (now index) ask here (now unfound) choice ⌝ }
@@ -202,7 +192,7 @@ fn offer(
 // Labels the way back, where it is to be labelled and has no label, whether it may be ridden or not: nothing comes of its label, and it is never queued.
 fn label_back(
     net: &[u8],
-    index: &CornerIndex,
+    index: &[u16],
     ask: Ask,
     here: Reached,
     asked: bool,
@@ -231,13 +221,13 @@ fn label_back(
 // Relaxes every edge from a run, and notes what is to find at the node where it arrives.
 pub fn relax(
     net: &[u8],
-    index: &CornerIndex,
+    index: &[u16],
     ask: Ask,
     here: Reached,
     best: &mut [u32],
     previous: &mut [u32],
     tree: &mut [u64],
-    unfound: &mut Unfound,
+    unfound: &mut [u8],
 )
     requires { ⌜ Relaxable (now net) (now index) ask here (now best) (now previous) (now tree) (now unfound) ⌝ }
     ensures { λ _. ⌜ Spreads (now (net .entry)) ask here (now (best .entry)) (now (previous .entry)) (now (unfound .entry))

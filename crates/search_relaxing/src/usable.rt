@@ -2,7 +2,7 @@
 ghost use mathlib.Core.Path.{_≡_};
 ghost use Rattle.streets.specs.Steps.Places.{RunOf};
 ghost use Rattle.streets.specs.Bicycle.{bicycle};
-ghost use Rattle.search_relaxing.specs.Steps.Town.{usable};
+ghost use Rattle.search_relaxing.specs.Steps.Counted.{usable};
 use streets::runs::is_open;
 use streets::runs::run_level;
 

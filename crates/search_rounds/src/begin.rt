@@ -1,9 +1,8 @@
 // The beginning of a search: the runs that leave the start are labelled with their own feet and queued.
 ghost use Rattle.queue.specs.Steps.Queue.{Empty};
 ghost use Rattle.search_labels.specs.Steps.Labels.{Room};
-ghost use Rattle.search_relaxing.specs.Steps.Town.{Ready};
+ghost use Rattle.search_relaxing.specs.Steps.Counted.{Ready};
 ghost use Rattle.search_rounds.specs.Steps.Searches.{Seedable, Seeds, Begins};
-use network::corners::CornerIndex;
 use search_labels::NONE;
 use search_labels::clear_labels;
 use search_labels::write_label;
@@ -37,7 +36,7 @@ fn begin_at(
 // Takes all labels away and labels the usable runs that leave the start: they stand at its eight entries of the corner index.
 pub fn begin(
     net: &[u8],
-    index: &CornerIndex,
+    index: &[u16],
     ask: Ask,
     best: &mut [u32],
     previous: &mut [u32],

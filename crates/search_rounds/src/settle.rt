@@ -1,15 +1,13 @@
 // Settling a run: it leaves the queue, and the edges from it are relaxed.
-ghost use Rattle.search_relaxing.specs.Steps.Town.{Ready};
+ghost use Rattle.search_relaxing.specs.Steps.Counted.{Ready};
 ghost use Rattle.search_relaxing.specs.Steps.Unfound.{Unfound};
 ghost use Rattle.search_rounds.specs.Steps.Searches.{DueNext, Settles};
-use network::corners::CornerIndex;
 use queue::least;
 use queue::remove;
 use search_labels::label_in;
 use search_labels::run_in;
 use search_relaxing::Ask;
 use search_relaxing::relax::Reached;
-use search_relaxing::relax::Unfound;
 use search_relaxing::relax::relax;
 use streets::runs::arrival_leg;
 use streets::runs::finish_of;
@@ -17,13 +15,13 @@ use streets::runs::finish_of;
 // Settles the run with the least key, and gives the next key.
 pub fn settle(
     net: &[u8],
-    index: &CornerIndex,
+    index: &[u16],
     ask: Ask,
     key: u64,
     best: &mut [u32],
     previous: &mut [u32],
     tree: &mut [u64],
-    unfound: &mut Unfound,
+    unfound: &mut [u8],
 ) -> u64
     requires { ⌜ Ready (now net) (now index) ask × DueNext (now net) ask key (now best) (now previous) (now tree) (now unfound)
         × Unfound (now net) (ask .tolerance) (ask .runs) (now best) (now unfound) ⌝ }

@@ -18,7 +18,7 @@ use Rattle.queue.specs.Steps.Queue.{top}
 use Rattle.lists.specs.Lists.{at}
 use Rattle.search_labels.specs.Steps.Keys.{labelIn, runIn, key}
 use Rattle.search_labels.specs.Steps.Search.{Fair, loose, Stop}
-use Rattle.search_relaxing.specs.Steps.Town.{arrivesAt}
+use Rattle.search_relaxing.specs.Steps.Counted.{arrivesAt}
 use Rattle.lists.specs.Placed.{placed}
 use Rattle.lists.proofs.PlacedLaws.{placed-nothing}
 use Rattle.search_routes.specs.Steps.Trace.{Traced, Ends}

@@ -3,15 +3,14 @@ ghost use mathlib.Core.Path.{_≡_};
 ghost use mathlib.Core.List.{[]};
 ghost use Prim.Native.Nat.{_≤_};
 ghost use lib.ListN.{length, drop};
-ghost use Rattle.network.specs.Steps.Corners.{cornersOf, Indexed};
+ghost use Rattle.network.specs.Steps.Corners.{IndexOf};
 ghost use Rattle.lists.specs.Lists.{at};
 ghost use Rattle.routes.specs.Steps.Labels.{chain};
 ghost use Rattle.routes.specs.Routes.{levelOf};
 ghost use Rattle.streets.specs.Steps.Places.{RunOf};
 ghost use Rattle.streets.specs.Bicycle.{bicycle, movementLevel};
-ghost use Rattle.search_relaxing.specs.Steps.Town.{mostRuns};
+ghost use Rattle.search_relaxing.specs.Steps.Counted.{mostRuns};
 ghost use Rattle.search_routes.specs.Steps.Trace.{Traced, Ends, Fillable, Levellable};
-use network::corners::CornerIndex;
 use search_labels::NONE;
 use streets::movements::arrival_of;
 use streets::movements::level_onto;
@@ -48,8 +47,8 @@ pub fn fill(previous: &[u32], n: usize, last: usize, count: usize, tail: &mut [u
 }
 
 // The level of the movement from a run onto the next.
-fn movement_level(net: &[u8], index: &CornerIndex, run: usize, next: usize) -> u8
-    requires { ⌜ RunOf (now net) run × RunOf (now net) next × Indexed (cornersOf (now net)) (now index) ⌝ }
+fn movement_level(net: &[u8], index: &[u16], run: usize, next: usize) -> u8
+    requires { ⌜ RunOf (now net) run × RunOf (now net) next × IndexOf (now net) (now index) ⌝ }
     ensures { λ r. ⌜ r ≡ movementLevel (now (net .entry)) run next ⌝ }
 {
     level_onto(arrival_of(net, index, run), leaving_leg(net, next))
@@ -58,7 +57,7 @@ fn movement_level(net: &[u8], index: &CornerIndex, run: usize, next: usize) -> u
 // The level of the chain.
 pub fn route_level(
     net: &[u8],
-    index: &CornerIndex,
+    index: &[u16],
     n: usize,
     previous: &[u32],
     last: usize,

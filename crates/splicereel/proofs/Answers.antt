@@ -11,26 +11,24 @@ use lib.Dec.{leb, ltb}
 use lib.ListN.{length}
 use borrow.Author.Tests.{le-leb, lt-leb, leb-true, ltb-true, not-true, not-false}
 use Rattle.lists.proofs.Facts.{and-true, lt-or-ge}
-use Rattle.routes.specs.Streets.{Streets}
-use Rattle.routes.specs.Routes.{NoRoute}
+use Rattle.routes.specs.Written.{Written}
 use Rattle.refusals.specs.declared.Refusal.the-variants.{NotANetwork, NoSuchNode, NoSuchTolerance, NoRoom}
 use Rattle.refusals.specs.Numbers.{unless}
 use Rattle.network.specs.Network.{nodesOf, segmentsOf, isNetwork}
-use Rattle.network.specs.Steps.Corners.{cornersOf, Indexed}
+use Rattle.network.specs.Steps.Corners.{IndexOf}
 use Rattle.streets.specs.Runs.{runsOf}
 use Rattle.streets.specs.Bicycle.{bicycle}
-use Rattle.routes.specs.declared.Found.{Found as FoundRoute}
 use Rattle.search_routes.specs.declared.find.Finding.{Finding}
 use Rattle.search_routes.specs.declared.find.Finding.the-variants.{Nothing, Found}
 use Rattle.search_routes.specs.Steps.Answered.{Question, Rooms, Answered}
-use Rattle.search_routes.proofs.Tolerance.{NoneUnder, none-under-one, none-under-more, least-written}
+use Rattle.search_routes.proofs.Tolerance.{first-is-least}
 use Rattle.splicereel.specs.declared.route.RouteAnswer.{RouteAnswer}
 use Rattle.splicereel.specs.declared.route.RouteAnswer.the-variants.{Refused}
 use Rattle.splicereel.specs.declared.least_stress.LeastAnswer.{LeastAnswer}
-use Rattle.splicereel.specs.declared.least_stress.LeastAnswer.the-variants.{Refused, Nothing, Found}
+use Rattle.splicereel.specs.declared.least_stress.LeastAnswer.the-variants.{Refused}
 use Rattle.splicereel.specs.Finding.{nodesRefusal, fits, routeRefusal, leastStressRefusal}
-use Rattle.splicereel.specs.Promises.{Lent, lent, RoutePromise, LeastPromise, LeastFound}
-use Rattle.splicereel.specs.Steps.Calls.{answerOf, Rising}
+use Rattle.splicereel.specs.Promises.{Lent, RoutePromise, LeastPromise}
+use Rattle.splicereel.specs.Steps.Calls.{answerOf, leastAnswerOf}
 use Rattle.splicereel.proofs.Guards.{both-below, not-both-below, are-within, not-within}
 
 -- ---- room
@@ -69,15 +67,15 @@ fitsIn before place runs = fits runs (length (before .best)) (length (before .pr
 
 -- ---- the guards, as the calls pass them one after the other
 module _ {net index : List ℕ} {from to place : ℕ} (before : Lent) {kept : Bool} (k : kept ≡ isNetwork net) (is : not kept ≡ false)
-    (ix : kept ≡ true → Indexed (cornersOf net) index) {nodes : ℕ} (n : nodes ≡ nodesOf net) (known : leb nodes from || leb nodes to ≡ false)
+    (ix : kept ≡ true → IndexOf net index) {nodes : ℕ} (n : nodes ≡ nodesOf net) (known : leb nodes from || leb nodes to ≡ false)
     {segments : ℕ} (s : segments ≡ segmentsOf net) {room : Bool} (h : room ≡ fitsIn before place (2 * segments))
   where
     -- what the search asks: the tests are passed
-    pub in-order : (t : ℕ) → 1 ≤ t → not room ≡ false
-        → Question net index (record { runs = 2 * segments; tolerance = t; from = from }) to
+    pub in-order : (least t : ℕ) → 1 ≤ least → least ≤ t → not room ≡ false
+        → Question net index (record { runs = 2 * segments; least = least; tolerance = t; from = from }) to
         × Rooms (2 * segments) (before .best) (before .previous) (before .buffer) place
     unfolding fits
-    in-order t low e =
+    in-order least t low order e =
         let r = runs-of net s in
         let runs = 2 * segments in
         let two = and-true (ltb from nodes) (ltb to nodes) (both-below from to nodes known) in
@@ -89,12 +87,13 @@ module _ {net index : List ℕ} {from to place : ℕ} (before : Lent) {kept : Bo
           record {
             ready =
                 record {
-                  town = record { network = sym k ∙ not-false kept is; count = r };
+                  counted = record { network = sym k ∙ not-false kept is; count = r };
                   indexed = ix (not-false kept is);
                   from-node = rw n at (ltb-true from nodes (two .0));
                 };
             to-node = rw n at (ltb-true to nodes (two .1));
             low = low;
+            order = order;
           },
           record {
             scratch =
@@ -142,54 +141,23 @@ module _ (net : List ℕ) (from to t : ℕ) (before : Lent) (place : ℕ) {kept 
             unrefused : routeRefusal net from to t (length (before .best)) (length (before .previous)) (length (before .buffer)) place ≡ 0
             unrefused = last-test ∙ rw (not-false room e)
 
-            answers : (after : Lent) (finding : Finding) → Answered (bicycle net) t from to place (before .buffer) (after .buffer) finding
+            answers : (after : Lent) (finding : Finding) → Answered (bicycle net) t t from to place (before .buffer) (after .buffer) finding
                 → RoutePromise net from to t before after place (answerOf finding)
             answers after Nothing A = record { refusal = sym unrefused; holds = (A .1, A .0) }
-            answers after (Found route) A = record { refusal = sym unrefused; holds = A }
+            answers after (Found route u) A =
+                record {
+                  refusal = sym unrefused;
+                  holds =
+                      subst (λ (v : ℕ). Written (bicycle net) v from to place (before .buffer) (after .buffer) route) (omega (arith, A .low, A .high)) (A .written);
+                }
 
             pub route-answers : {after : Lent} (finding : Finding) {answer : RouteAnswer} → answer ≡ answerOf finding
-                → Answered (bicycle net) t from to place (before .buffer) (after .buffer) finding
+                → Answered (bicycle net) t t from to place (before .buffer) (after .buffer) finding
                 → RoutePromise net from to t before after place answer
             route-answers {after} finding {answer} same A =
                 subst (λ (a : RouteAnswer). RoutePromise net from to t before after place a) (sym same) (answers after finding A)
 
 -- ---- Least stress
--- the tolerances below t have been tried: none has a route, and the buffer is as it came
-pub record Tried (g : Streets) (a b t : ℕ) (before after : Lent) : Type 0 where
-  pub low : 1 ≤ t
-  pub high : t ≤ 5
-  pub same-best : length (after .best) ≡ length (before .best)
-  pub same-previous : length (after .previous) ≡ length (before .previous)
-  pub untouched : after .buffer ≡ before .buffer
-  pub none : NoneUnder g t a b
-
-pub tried-none : (g : Streets) (a b : ℕ) (before : Lent) → Tried g a b 1 before before
-tried-none g a b before =
-    record { low = omega arith; high = omega arith; same-best = refl; same-previous = refl; untouched = refl; none = none-under-one g a b }
-
-module _ {g : Streets} {a b t : ℕ} {before after : Lent} (T : Tried g a b t before after) (place : ℕ) {buffer : List ℕ} {finding : Finding} (l : t < 5) where
-  pub tried-found : {route : FoundRoute} → finding ≡ Found route → Answered g t a b place (after .buffer) buffer finding
-      → LeastFound g a b place (before .buffer) buffer (record { route = route; tolerance = t })
-  tried-found e A =
-      let W = rw (T .untouched) at (subst (λ (f : Finding). Answered g t a b place (after .buffer) buffer f) e A) in
-      record { smallest = least-written (T .low) (T .none) W; most = omega arith; drawn = W }
-
-  pub tried-more : {best previous : List ℕ} → finding ≡ Nothing → Answered g t a b place (after .buffer) buffer finding
-      → length best ≡ length (after .best) → length previous ≡ length (after .previous) → Tried g a b (t + 1) before (lent best previous buffer)
-  tried-more e A p q =
-      let h = subst (λ (f : Finding). Answered g t a b place (after .buffer) buffer f) e A in
-      record {
-        low = omega arith;
-        high = omega arith;
-        same-best = p ∙ T .same-best;
-        same-previous = q ∙ T .same-previous;
-        untouched = h .0 ∙ T .untouched;
-        none = none-under-more (T .none) (h .1);
-      }
-
-pub tried-all : {g : Streets} {a b t : ℕ} {before after : Lent} → Tried g a b t before after → 5 ≤ t → NoRoute g 4 a b × (after .buffer ≡ before .buffer)
-tried-all T l = (T .none .none 4 (omega arith) (omega arith), T .untouched)
-
 module _ (net : List ℕ) (from to : ℕ) (before : Lent) (place : ℕ) {kept : Bool} (k : kept ≡ isNetwork net) where
   pub least-no-network : not kept ≡ true → LeastPromise net from to before before place (Refused NotANetwork)
   unfolding leastStressRefusal nodesRefusal
@@ -214,8 +182,16 @@ module _ (net : List ℕ) (from to : ℕ) (before : Lent) (place : ℕ) {kept : 
           least-unrefused : leastStressRefusal net from to (length (before .best)) (length (before .previous)) (length (before .buffer)) place ≡ 0
           least-unrefused = least-last-test ∙ rw (not-false room e)
 
-          pub least-answers : {after : Lent} (answer : LeastAnswer) → Rising (bicycle net) from to place (before .buffer) (after .buffer) answer
-              → LeastPromise net from to before after place answer
-          least-answers (Refused why) A = absurd A
-          least-answers Nothing A = record { refusal = sym least-unrefused; holds = A }
-          least-answers (Found route tolerance) A = record { refusal = sym least-unrefused; holds = A }
+          least-found : (after : Lent) (finding : Finding) → Answered (bicycle net) 1 4 from to place (before .buffer) (after .buffer) finding
+              → LeastPromise net from to before after place (leastAnswerOf finding)
+          least-found after Nothing A = record { refusal = sym least-unrefused; holds = (A .1, A .0) }
+          least-found after (Found route u) A =
+              record {
+                refusal = sym least-unrefused;
+                holds = record { smallest = first-is-least A; most = A .high; drawn = A .written };
+              }
+
+          pub least-answers : {after : Lent} (finding : Finding) {answer : LeastAnswer} → answer ≡ leastAnswerOf finding
+              → Answered (bicycle net) 1 4 from to place (before .buffer) (after .buffer) finding → LeastPromise net from to before after place answer
+          least-answers {after} finding same A =
+              subst (λ (a : LeastAnswer). LeastPromise net from to before after place a) (sym same) (least-found after finding A)

@@ -1,11 +1,12 @@
 // Least stress: the smallest tolerance at which a route exists, and a shortest route within it.
-ghost use Rattle.streets.specs.Bicycle.{bicycle};
-ghost use Rattle.search_routes.specs.Steps.Answered.{Question, Rooms};
+ghost use mathlib.Core.Path.{_≡_};
+ghost use Rattle.network.specs.Steps.Checks.{Awaits};
 ghost use Rattle.splicereel.specs.Promises.{lent, LeastPromise};
-ghost use Rattle.splicereel.specs.Steps.Calls.{Rising};
+ghost use Rattle.splicereel.specs.Steps.Calls.{leastAnswerOf};
 use crate::route::has_room;
-use network::corners::CornerIndex;
-use network::corners::no_corners;
+use network::corners::county_corners;
+use network::corners::town_corners;
+use network::kept::is_county;
 use network::kept::is_network;
 use refusals::Refusal;
 use routes::Found;
@@ -36,8 +37,48 @@ pub fn least_stress(
         (lent (now (best .entry)) (now (previous .entry)) (now (buffer .entry)))
         (lent (now (best .exit)) (now (previous .exit)) (now (buffer .exit))) place r ⌝ }
 {
-    let mut index = no_corners();
-    if !is_network(net, &mut index) {
+    if is_county(net) {
+        return least_stress_in_county(net, from, to, best, previous, buffer, place);
+    }
+    let mut index = town_corners();
+    least_stress_by(net, from, to, best, previous, buffer, place, &mut index)
+}
+
+// The same in a county's memory.
+pub fn least_stress_in_county(
+    net: &[u8],
+    from: usize,
+    to: usize,
+    best: &mut [u32],
+    previous: &mut [u32],
+    buffer: &mut [u16],
+    place: usize,
+) -> LeastAnswer
+    ensures { λ r. ⌜ LeastPromise (now (net .entry)) from to
+        (lent (now (best .entry)) (now (previous .entry)) (now (buffer .entry)))
+        (lent (now (best .exit)) (now (previous .exit)) (now (buffer .exit))) place r ⌝ }
+{
+    let mut index = county_corners();
+    least_stress_by(net, from, to, best, previous, buffer, place, &mut index)
+}
+
+// The same with a corner index that is lent.
+fn least_stress_by(
+    net: &[u8],
+    from: usize,
+    to: usize,
+    best: &mut [u32],
+    previous: &mut [u32],
+    buffer: &mut [u16],
+    place: usize,
+    index: &mut [u16],
+) -> LeastAnswer
+    requires { ⌜ Awaits (now net) (now index) ⌝ }
+    ensures { λ r. ⌜ LeastPromise (now (net .entry)) from to
+        (lent (now (best .entry)) (now (previous .entry)) (now (buffer .entry)))
+        (lent (now (best .exit)) (now (previous .exit)) (now (buffer .exit))) place r ⌝ }
+{
+    if !is_network(net, index) {
         return LeastAnswer::Refused(Refusal::NotANetwork);
     }
     let nodes = nodes_of(net);
@@ -48,43 +89,23 @@ pub fn least_stress(
     if !has_room(runs, best.len(), previous.len(), buffer.len(), place) {
         return LeastAnswer::Refused(Refusal::NoRoom);
     }
-    let first = Ask {
+    let ask = Ask {
         runs,
-        tolerance: 1,
+        least: 1,
+        tolerance: 4,
         from,
     };
-    rising(net, &index, first, to, best, previous, buffer, place)
+    least_answered(find(net, index, ask, to, best, previous, buffer, place))
 }
 
-// Asks the same at the tolerances from 1 on.
-fn rising(
-    net: &[u8],
-    index: &CornerIndex,
-    ask: Ask,
-    to: usize,
-    best: &mut [u32],
-    previous: &mut [u32],
-    buffer: &mut [u16],
-    place: usize,
-) -> LeastAnswer
-    requires { ⌜ Question (now net) (now index) ask to × Rooms (ask .runs) (now best) (now previous) (now buffer) place ⌝ }
-    ensures { λ r. ⌜ Rising (bicycle (now (net .entry))) (ask .from) to place (now (buffer .entry)) (now (buffer .exit)) r ⌝ }
+fn least_answered(finding: Finding) -> LeastAnswer
+    ensures { λ r. ⌜ r ≡ leastAnswerOf finding ⌝ }
 {
-    let mut t: u8 = 1;
-    while t < 5 {
-        let asked = Ask {
-            runs: ask.runs,
-            tolerance: t,
-            from: ask.from,
-        };
-        let finding = find(net, index, asked, to, best, previous, buffer, place);
-        if let Finding::Found(found) = finding {
-            return LeastAnswer::Found {
-                found,
-                tolerance: t as usize,
-            };
-        }
-        t += 1;
+    match finding {
+        Finding::Nothing => LeastAnswer::Nothing,
+        Finding::Found { found, tolerance } => LeastAnswer::Found {
+            found,
+            tolerance: tolerance as usize,
+        },
     }
-    LeastAnswer::Nothing
 }

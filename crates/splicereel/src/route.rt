@@ -1,9 +1,12 @@
 // Route: a shortest way from node to node that never goes above a tolerance.
 ghost use mathlib.Core.Path.{_≡_};
+ghost use Rattle.network.specs.Steps.Checks.{Awaits};
 ghost use Rattle.splicereel.specs.Finding.{fits};
 ghost use Rattle.splicereel.specs.Promises.{lent, RoutePromise};
 ghost use Rattle.splicereel.specs.Steps.Calls.{answerOf};
-use network::corners::no_corners;
+use network::corners::county_corners;
+use network::corners::town_corners;
+use network::kept::is_county;
 use network::kept::is_network;
 use refusals::Refusal;
 use routes::Found;
@@ -45,8 +48,70 @@ pub fn route(
         (lent (now (best .entry)) (now (previous .entry)) (now (buffer .entry)))
         (lent (now (best .exit)) (now (previous .exit)) (now (buffer .exit))) place r ⌝ }
 {
-    let mut index = no_corners();
-    if !is_network(net, &mut index) {
+    if is_county(net) {
+        return route_in_county(net, from, to, tolerance, best, previous, buffer, place);
+    }
+    let mut index = town_corners();
+    route_by(
+        net,
+        from,
+        to,
+        tolerance,
+        best,
+        previous,
+        buffer,
+        place,
+        &mut index,
+    )
+}
+
+// The same in a county's memory.
+pub fn route_in_county(
+    net: &[u8],
+    from: usize,
+    to: usize,
+    tolerance: usize,
+    best: &mut [u32],
+    previous: &mut [u32],
+    buffer: &mut [u16],
+    place: usize,
+) -> RouteAnswer
+    ensures { λ r. ⌜ RoutePromise (now (net .entry)) from to tolerance
+        (lent (now (best .entry)) (now (previous .entry)) (now (buffer .entry)))
+        (lent (now (best .exit)) (now (previous .exit)) (now (buffer .exit))) place r ⌝ }
+{
+    let mut index = county_corners();
+    route_by(
+        net,
+        from,
+        to,
+        tolerance,
+        best,
+        previous,
+        buffer,
+        place,
+        &mut index,
+    )
+}
+
+// The same with a corner index that is lent.
+fn route_by(
+    net: &[u8],
+    from: usize,
+    to: usize,
+    tolerance: usize,
+    best: &mut [u32],
+    previous: &mut [u32],
+    buffer: &mut [u16],
+    place: usize,
+    index: &mut [u16],
+) -> RouteAnswer
+    requires { ⌜ Awaits (now net) (now index) ⌝ }
+    ensures { λ r. ⌜ RoutePromise (now (net .entry)) from to tolerance
+        (lent (now (best .entry)) (now (previous .entry)) (now (buffer .entry)))
+        (lent (now (best .exit)) (now (previous .exit)) (now (buffer .exit))) place r ⌝ }
+{
+    if !is_network(net, index) {
         return RouteAnswer::Refused(Refusal::NotANetwork);
     }
     let nodes = nodes_of(net);
@@ -62,10 +127,11 @@ pub fn route(
     }
     let ask = Ask {
         runs,
+        least: tolerance as u8,
         tolerance: tolerance as u8,
         from,
     };
-    answered(find(net, &index, ask, to, best, previous, buffer, place))
+    answered(find(net, index, ask, to, best, previous, buffer, place))
 }
 
 fn answered(finding: Finding) -> RouteAnswer
@@ -73,6 +139,9 @@ fn answered(finding: Finding) -> RouteAnswer
 {
     match finding {
         Finding::Nothing => RouteAnswer::Nothing,
-        Finding::Found(found) => RouteAnswer::Found(found),
+        Finding::Found {
+            found,
+            tolerance: _,
+        } => RouteAnswer::Found(found),
     }
 }

@@ -20,8 +20,8 @@ use Rattle.frames.specs.Ranges.{formOk, approachOk, streetOk, within}
 use Rattle.frames.proofs.RangeLaws.{within-low, within-high}
 use Rattle.network.specs.Legs.{corner, cornerA, cornerB}
 use Rattle.network.specs.Network.{editionOf, nodesOf, frameOf, isNetwork}
-use Rattle.network.specs.Steps.Corners.{leaves, cornersOf, Indexed, LeavesBy}
-use Rattle.network.proofs.NetworkLaws.{passed, frame-follows, corner-below, corner-same, run-leaves, leaves-tells}
+use Rattle.network.specs.Steps.Corners.{leaves, cornersOf, IndexOf, LeavesBy}
+use Rattle.network.proofs.NetworkLaws.{frame-follows, corner-below, corner-same, run-leaves, leaves-tells}
 use Rattle.streets.specs.Runs.{runsOf, segmentOf, ridesToB, frameOfRun, start, leavingLeg, finish, arrivalLeg, feetOf}
 use Rattle.streets.specs.Steps.Places.{RunOf, SegmentAt}
 use Rattle.streets.specs.Steps.Leaving.{Entry}
@@ -88,12 +88,9 @@ leaves-inside net r c w =
     (w .end)
 
 -- ---- the corner index
-pub node-small : (net : List ℕ) {node : ℕ} → isNetwork net ≡ true → node < nodesOf net → node < 1000
-node-small net is l = omega (arith, passed net is .limits .few-nodes)
-
-module _ (net : List ℕ) {index : List ℕ} (is : isNetwork net ≡ true) (I : Indexed (cornersOf net) index) where
+module _ (net : List ℕ) {index : List ℕ} (is : isNetwork net ≡ true) (I : IndexOf net index) where
   index-entry : (node leg : ℕ) → node < nodesOf net → leg < 8 → at index (node * 8 + leg) ≡ leaves (cornersOf net) (corner node leg)
-  index-entry node leg l low = I .entry (corner node leg) (corner-below node leg (node-small net is l) (omega arith))
+  index-entry node leg l low = I .entry (corner node leg) (corner-below node leg l (omega arith))
 
   pub entry-leaves : {node leg : ℕ} → node < nodesOf net → leg < 8 → Entry net node leg (at index (node * 8 + leg))
   entry-leaves {node} {leg} l low =
@@ -145,7 +142,7 @@ opposed net r =
     record { starts = rw (other, half, e); leaves = rw (other, half, e); ends = rw (other, half, e) })
 
 -- a corner is one run's: a run that leaves where another arrives, by the leg of its arrival, goes back where that one came from
-pub back-ends : (net : List ℕ) {index : List ℕ} → isNetwork net ≡ true → Indexed (cornersOf net) index → {u r : ℕ} → RunOf net u → RunOf net r
+pub back-ends : (net : List ℕ) {index : List ℕ} → isNetwork net ≡ true → IndexOf net index → {u r : ℕ} → RunOf net u → RunOf net r
     → start net r ≡ finish net u → leavingLeg net r ≡ arrivalLeg net u → finish net r ≡ start net u
 back-ends net is I {u} {r} U R from by =
     let O = opposed net u in

@@ -18,7 +18,6 @@ use Rattle.frames.specs.Edition.{frameBytes}
 use Rattle.frames.specs.Frame.{edition, nodes, segments}
 use Rattle.frames.specs.Follows.{HeadFollows}
 use Rattle.frames.proofs.EditionLaws.{frame-least}
-use Rattle.frames.proofs.FrameLaws.{head-limits}
 use Rattle.frames.proofs.FaultLaws.{head-follows}
 use Rattle.network.specs.Legs.{taking}
 use Rattle.network.specs.Network.{keptBytes}
@@ -129,7 +128,6 @@ pub record TextKept (t : List ℕ) (room : ℕ) (b : List ℕ) : Type 0 where
   pub s : ℕ
   pub e-is : e ≡ edition (spelled 7 t)
   pub s-is : s ≡ segments (spelled 7 t)
-  pub few : s ≤ 1000
   pub fits : 7 + frameBytes e * s ≤ room
   pub long : 15 + (2 * frameBytes e + 1) * s ≤ length t
   pub count : length b ≡ 7 + frameBytes e * s
@@ -147,7 +145,6 @@ text-kept t room b f =
       s = segments h;
       e-is = ap edition (w .spells);
       s-is = ap segments (w .spells);
-      few = head-limits h (w .follows .fields) .few-segments;
       fits = w .fits;
       long = omega (arith, i .1, ap length (w .rest), length-drop 15 t, w .room-in);
       count = omega (

@@ -80,10 +80,10 @@ pub record Going (t h : List ℕ) (start : ℕ) (head : Head) (s at : ℕ) (d : 
   pub low : s ≤ head .segments
   pub limited : Limited head
   pub place : at ≤ length t
-  pub indexed : Indexed taken d
+  pub indexed : Indexed (head .nodes) taken d
   pub whole : segmentLines (head .edition) (head .nodes) (head .segments - s) (s + 2) taken sofar (drop at t) ≡ segmentLines (head .edition) (head .nodes) (head .segments) 2 [] h (drop start t)
 
-pub starts : {t h : List ℕ} {start : ℕ} {head : Head} {d : List ℕ} → start ≤ length t → length h ≡ 7 → Limited head → Indexed [] d
+pub starts : {t h : List ℕ} {start : ℕ} {head : Head} {d : List ℕ} → start ≤ length t → length h ≡ 7 → Limited head → Indexed (head .nodes) [] d
     → Going t h start head 0 start d
 starts {t} {h} {start} {head} a l o x =
     record {
@@ -101,7 +101,7 @@ starts {t} {h} {start} {head} a l o x =
 module _ {t h : List ℕ} {start : ℕ} {head : Head} {s at : ℕ} {d : List ℕ} (w : Going t h start head s at d) where
   -- a line's number by the index is its number by the legs taken
   numbered : {x : ℕ} → faultAfter head s d (bytesAt t at) ≡ x → segmentFault (head .edition) (head .nodes) (ltb s (head .segments)) (w .taken) (bytesAt t at) ≡ x
-  numbered f = sym (index-fault (w .indexed) (head .edition) (head .nodes) (ltb s (head .segments)) (bytesAt t at) (w .limited .few-nodes)) ∙ f
+  numbered f = sym (index-fault (w .indexed) (head .edition) (ltb s (head .segments)) (bytesAt t at)) ∙ f
 
   pub refuses : {d′ : List ℕ} {r : LineRead} {fault : Refusal} → at < length t
       → LineJudged t at head s d d′ r → r ≡ Faulty fault
@@ -140,7 +140,7 @@ module _ {t h : List ℕ} {start : ℕ} {head : Head} {s at : ℕ} {d : List ℕ
       let k : Faultless (head .edition) (head .nodes) (ltb s (head .segments)) (w .taken) f = faultless (head .edition) (head .nodes) (ltb s (head .segments)) (w .taken) f (numbered (q .0)) in
       let z : segmentFault (head .edition) (head .nodes) true (w .taken) f ≡ 0 =
       subst (λ (y : Bool). segmentFault (head .edition) (head .nodes) y (w .taken) f ≡ 0) (k .counted) (numbered (q .0)) in
-      let o = corners-few (head .nodes) f (w .limited .few-nodes) (k .follows .ends) in
+      let o = corners-few (head .nodes) f (k .follows .ends) in
       let y : length f ≡ frameBytes (head .edition) = k .follows .size in
       let v = line-after t at (frameBytes (head .edition)) (w .place) (omega (arith, frame-least (head .edition))) y in
       let e₀ : next ≡ at + (2 * frameBytes (head .edition) + 1) = omega (arith, q .1) in
@@ -154,7 +154,7 @@ module _ {t h : List ℕ} {start : ℕ} {head : Head} {s at : ℕ} {d : List ℕ
         low = omega arith;
         limited = w .limited;
         place = omega (arith, v .0, q .1);
-        indexed = subst (λ (j : List ℕ). Indexed (taking (w .taken) f) j) (sym i) (claimed-indexed (w .indexed) s f (w .runs) (o .0) (o .1));
+        indexed = subst (λ (j : List ℕ). Indexed (head .nodes) (taking (w .taken) f) j) (sym i) (claimed-indexed (w .indexed) s f (w .runs) (o .0) (o .1));
         whole =
             let e₁ : s + 1 + 2 ≡ s + 2 + 1 = omega arith in
             let e₂ : drop next t ≡ restOf (lineOf (drop at t)) = ap (λ (j : ℕ). drop j t) e₀ ∙ sym (v .1) in

@@ -1,8 +1,8 @@
 -- The samples hold, by computation.
 -- Assumes nothing.
 use mathlib.Core.Path.{refl}
-use Rattle.frames.specs.Edition.{editionOk, mostNodes, mostSegments, extra, frameBytes, mostFeet, marksOk, crossesNothing}
-use Rattle.frames.specs.Frame.{total, checkOk, feet}
+use Rattle.frames.specs.Edition.{editionOk, mostNodes, mostSegments, extra, lengthBytes, frameBytes, mostFeet, marksOk, crossesNothing}
+use Rattle.frames.specs.Frame.{number, total, checkOk, feet}
 use Rattle.frames.specs.Ranges.{headOk, endsOk, formOk, crossingOk, turnLaneOk, approachOk, streetOk}
 use Rattle.frames.specs.Faults.{framed, headFault}
 use Rattle.network.specs.Legs.{isIn, legsFree}
@@ -13,7 +13,7 @@ use Rattle.text.specs.Read.{segmentLines, readOf}
 use Rattle.text.specs.Samples.{Samples}
 
 pub samples : Samples
-unfolding isDigit digit lineOf editionOk mostNodes mostSegments extra frameBytes mostFeet marksOk crossesNothing total checkOk feet headOk endsOk formOk crossingOk turnLaneOk approachOk streetOk isIn legsFree framed headFault segmentFault segmentLines readOf framesOk isNetwork
+unfolding isDigit digit lineOf editionOk mostNodes mostSegments extra lengthBytes frameBytes mostFeet marksOk crossesNothing number total checkOk feet headOk endsOk formOk crossingOk turnLaneOk approachOk streetOk isIn legsFree framed headFault segmentFault segmentLines readOf framesOk isNetwork
 samples =
     record {
       accepted = refl;

@@ -2,13 +2,15 @@
 ghost use Prim.Native.Nat.{_+_, _*_, _≤_, _<_};
 ghost use mathlib.Core.Path.{_≡_};
 ghost use mathlib.Core.Bool.{true};
-ghost use mathlib.Core.List.{_++_};
+ghost use mathlib.Core.List.{[], _++_};
 ghost use lib.ListN.{length, drop};
 ghost use Rattle.frames.specs.Edition.{frameBytes};
-ghost use Rattle.frames.specs.Frame.{headBytes};
+ghost use Rattle.frames.specs.Steps.Sizes.{mostBytes};
+ghost use Rattle.frames.specs.Frame.{headBytes, nodes};
 ghost use Rattle.frames.specs.Ranges.{headOk};
 ghost use Rattle.frames.specs.Faults.{framed};
-ghost use Rattle.frames.specs.Steps.Sizes.{Limited};
+ghost use Rattle.network.specs.Steps.Corners.{Indexed};
+ghost use Rattle.network.specs.Steps.Checks.{HeadFits};
 ghost use Rattle.text.specs.Read.{readOf};
 ghost use Rattle.text.specs.Told.{told, toldOf, ReadDid};
 ghost use Rattle.text.specs.Steps.Spelled.{spelledText};
@@ -25,9 +27,11 @@ use frames::frame::sum_of;
 use frames::ranges::ends_ok;
 use frames::ranges::head_ok;
 use frames::ranges::street_ok;
-use network::corners::CornerIndex;
+use frames::sizes;
+use frames::sizes::is_town;
 use network::corners::claim_legs;
-use network::corners::no_corners;
+use network::corners::county_corners;
+use network::corners::town_corners;
 use network::kept::kept_bytes;
 use refusals::Refusal;
 
@@ -40,7 +44,7 @@ pub enum LineRead {
 // Reads the line at a place into the buffer, where it has as many bytes as the buffer: then its digits and its 0A stand where they must, and nothing
 // is searched for.
 fn whole_line(text: &[u8], at: usize, frame: &mut [u8]) -> bool
-    requires { ⌜ (at ≤ length (now text)) × (0 < length (now frame)) × (length (now frame) ≤ 32) ⌝ }
+    requires { ⌜ (at ≤ length (now text)) × (0 < length (now frame)) × (length (now frame) ≤ mostBytes) ⌝ }
     ensures { λ r. ⌜ LineDecoded (now (text .entry)) at (now (frame .entry)) (now (frame .exit)) r ⌝ }
 {
     let digits = 2 * frame.len();
@@ -72,7 +76,7 @@ fn fault_of(text: &[u8], at: usize) -> Refusal
 
 // Reads the line at a place as a frame of this kind and of the buffer's length.
 fn frame_line(text: &[u8], at: usize, kind: u8, frame: &mut [u8]) -> LineRead
-    requires { ⌜ (at ≤ length (now text)) × (0 < length (now frame)) × (length (now frame) ≤ 32) ⌝ }
+    requires { ⌜ (at ≤ length (now text)) × (0 < length (now frame)) × (length (now frame) ≤ mostBytes) ⌝ }
     ensures { λ r. ⌜ FrameRead (now (text .entry)) at kind (now (frame .entry)) (now (frame .exit)) r ⌝ }
 {
     if !whole_line(text, at, frame) {
@@ -88,8 +92,8 @@ fn frame_line(text: &[u8], at: usize, kind: u8, frame: &mut [u8]) -> LineRead
 }
 
 // Judges the frame of segment s, whose line had no fault of its own, and takes its legs where it has no fault either.
-fn judge_frame(frame: &[u8], next: usize, head: Head, s: usize, index: &mut CornerIndex) -> LineRead
-    requires { ⌜ (framed 2 (frameBytes (head .edition)) (now frame) 0 ≡ 0) × Limited head ⌝ }
+fn judge_frame(frame: &[u8], next: usize, head: Head, s: usize, index: &mut [u16]) -> LineRead
+    requires { ⌜ (framed 2 (frameBytes (head .edition)) (now frame) 0 ≡ 0) × HeadFits head (now index) ⌝ }
     ensures { λ r. ⌜ SegmentJudged (now (frame .entry)) next head s (now (index .entry)) (now (index .exit)) r ⌝ }
 {
     if head.segments <= s {
@@ -114,9 +118,9 @@ fn judge_line(
     head: Head,
     s: usize,
     frame: &mut [u8],
-    index: &mut CornerIndex,
+    index: &mut [u16],
 ) -> LineRead
-    requires { ⌜ (at ≤ length (now text)) × Limited head × (length (now frame) ≡ frameBytes (head .edition)) ⌝ }
+    requires { ⌜ (at ≤ length (now text)) × HeadFits head (now index) × (length (now frame) ≡ frameBytes (head .edition)) ⌝ }
     ensures { λ r. ⌜ LineJudged (now (text .entry)) at head s (now (index .entry)) (now (index .exit)) r ⌝ }
 {
     match frame_line(text, at, fields::SEGMENT_KIND, frame) {
@@ -126,28 +130,32 @@ fn judge_line(
 }
 
 // The same with a buffer of its own.
-fn segment_line(text: &[u8], at: usize, head: Head, s: usize, index: &mut CornerIndex) -> LineRead
-    requires { ⌜ (at ≤ length (now text)) × Limited head ⌝ }
+fn segment_line(text: &[u8], at: usize, head: Head, s: usize, index: &mut [u16]) -> LineRead
+    requires { ⌜ (at ≤ length (now text)) × HeadFits head (now index) ⌝ }
     ensures { λ r. ⌜ LineJudged (now (text .entry)) at head s (now (index .entry)) (now (index .exit)) r ⌝ }
 {
-    let mut frame = [0u8; fields::MOST_BYTES];
+    let mut frame = [0u8; sizes::MOST_BYTES];
     let size = frame_bytes(head.edition);
     judge_line(text, at, head, s, &mut frame[..size], index)
 }
 
-// The answer for the lines after a good head, from a place of the text on.
-fn judge_segments(text: &[u8], start: usize, first: &[u8; fields::HEAD_BYTES]) -> ReadAnswer
-    requires { ⌜ (start ≤ length (now text)) × (headOk (now first) ≡ true) ⌝ }
+// The answer for the lines after a good head, from a place of the text on, with an index that has room for the head's nodes.
+fn judge_lines(
+    text: &[u8],
+    start: usize,
+    first: &[u8; fields::HEAD_BYTES],
+    index: &mut [u16],
+) -> ReadAnswer
+    requires { ⌜ (start ≤ length (now text)) × (headOk (now first) ≡ true) × Indexed (nodes (now first)) [] (now index) ⌝ }
     ensures { λ r. ⌜ told r ≡ toldOf (linesAfter (now (first .entry)) (drop start (now (text .entry)))) ⌝ }
 {
     let head = head_of(first);
     let segments = head.segments;
     let end = text.len();
-    let mut index = no_corners();
     let mut s: usize = 0;
     let mut at = start;
     while at < end {
-        match segment_line(text, at, head, s, &mut index) {
+        match segment_line(text, at, head, s, index) {
             LineRead::Faulty(fault) => {
                 return ReadAnswer::Refused {
                     refusal: fault,
@@ -167,6 +175,28 @@ fn judge_segments(text: &[u8], start: usize, first: &[u8; fields::HEAD_BYTES]) -
         };
     }
     ReadAnswer::Kept(kept_bytes(head))
+}
+
+// The same in memory of its own: a county's.
+pub fn judge_in_county(text: &[u8], start: usize, first: &[u8; fields::HEAD_BYTES]) -> ReadAnswer
+    requires { ⌜ (start ≤ length (now text)) × (headOk (now first) ≡ true) ⌝ }
+    ensures { λ r. ⌜ told r ≡ toldOf (linesAfter (now (first .entry)) (drop start (now (text .entry)))) ⌝ }
+{
+    let mut index = county_corners();
+    judge_lines(text, start, first, &mut index)
+}
+
+// The same in a town's memory, where the network is no larger.
+fn judge_segments(text: &[u8], start: usize, first: &[u8; fields::HEAD_BYTES]) -> ReadAnswer
+    requires { ⌜ (start ≤ length (now text)) × (headOk (now first) ≡ true) ⌝ }
+    ensures { λ r. ⌜ told r ≡ toldOf (linesAfter (now (first .entry)) (drop start (now (text .entry)))) ⌝ }
+{
+    let head = head_of(first);
+    if !is_town(head.nodes, head.segments) {
+        return judge_in_county(text, start, first);
+    }
+    let mut index = town_corners();
+    judge_lines(text, start, first, &mut index)
 }
 
 // The answer for a text and an output of `room` bytes.
@@ -205,7 +235,7 @@ fn judge_text(text: &[u8], room: usize) -> ReadAnswer
 
 // Writes the bytes of a text that was judged good: its head and so many lines of frames of this size.
 fn write_frames(text: &[u8], size: usize, segments: usize, output: &mut [u8])
-    requires { ⌜ (2 * headBytes + 1 + (2 * size + 1) * segments ≤ length (now text)) × (headBytes + size * segments ≤ length (now output)) × (size ≤ 32) ⌝ }
+    requires { ⌜ (2 * headBytes + 1 + (2 * size + 1) * segments ≤ length (now text)) × (headBytes + size * segments ≤ length (now output)) × (size ≤ mostBytes) ⌝ }
     ensures { λ _. ⌜ now (output .exit) ≡ spelledText size segments (now (text .entry)) ++ drop (headBytes + size * segments) (now (output .entry)) ⌝ }
 {
     decode_into(text, 0, &mut output[0..fields::HEAD_BYTES]);

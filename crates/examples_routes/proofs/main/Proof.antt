@@ -46,14 +46,23 @@ enum-known-kept c = search needs
 array-share-prefix-net : tie.Need-array-share-prefix-net
 array-share-prefix-net c = kept-front (c .before .kept .given .1) (c .before .before .before .before .read .ensures) .1
 
-slice-aggregate-show-all : tie.Need-slice-aggregate-show-all
-slice-aggregate-show-all c =
+slice-aggregate-network : tie.Need-slice-aggregate-network
+slice-aggregate-network c =
     let after-read = c .before .before .before .before .before in
     sym
     (length-take-le (c .before .before .kept .given .0 .0) (after-read .read .last .1 .0) (kept-front (c .before .before .kept .given .1) (after-read .read .ensures) .1))
 
 show-all-requires : tie.Need-show-all-requires
 show-all-requires c κs = search needs
+
+array-share-prefix-text-2 : tie.Need-array-share-prefix-text-2
+array-share-prefix-text-2 c = search needs
+
+slice-aggregate-same-reading : tie.Need-slice-aggregate-same-reading
+slice-aggregate-same-reading c = search needs
+
+same-reading-requires : tie.Need-same-reading-requires
+same-reading-requires c κs = search needs
 
 returns : tie.Need-returns
 returns c = search needs
@@ -78,7 +87,10 @@ main-spec =
     write-all-requires
     enum-known-kept
     array-share-prefix-net
-    slice-aggregate-show-all
+    slice-aggregate-network
     show-all-requires
+    array-share-prefix-text-2
+    slice-aggregate-same-reading
+    same-reading-requires
     returns
     returns-2)

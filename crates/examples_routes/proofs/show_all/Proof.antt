@@ -56,6 +56,9 @@ loop2-again c = search needs
 show-refusals-requires : tie.Need-show-refusals-requires Inv-loop μ-loop Inv-loop2 μ-loop2
 show-refusals-requires c κs = search needs
 
+same-levels-requires : tie.Need-same-levels-requires Inv-loop μ-loop Inv-loop2 μ-loop2
+same-levels-requires c κs = search needs
+
 returns : tie.Need-returns Inv-loop μ-loop Inv-loop2 μ-loop2
 returns c = search needs
 
@@ -80,4 +83,5 @@ show-all-spec =
     loop2-less
     loop2-again
     show-refusals-requires
+    same-levels-requires
     returns)

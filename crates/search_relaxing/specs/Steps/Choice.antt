@@ -5,8 +5,11 @@ use mathlib.Core.Bool.{Bool, true, false, cond}
 use mathlib.Core.List.{List}
 use Prim.Native.Nat.{ℕ, _+_, _*_, _-_, _%_, _≤_, _<_}
 use lib.Dec.{eqb}
+use lib.ListN.{length}
 use Rattle.lists.specs.Lists.{at}
 use Rattle.routes.specs.Steps.Labels.{unlabelled, edgeOf}
+use Rattle.frames.specs.Steps.Sizes.{countyFeet}
+use Rattle.network.specs.Network.{nodesOf}
 use Rattle.streets.specs.Runs.{start, feetOf}
 use Rattle.streets.specs.Bicycle.{bicycle}
 use Rattle.search_labels.specs.Steps.Labels.{Room}
@@ -15,8 +18,8 @@ use Rattle.search_labels.specs.Steps.Search.{Settling}
 use Rattle.search_relaxing.specs.declared.Ask.{Ask}
 use Rattle.search_relaxing.specs.declared.relax.Reached.{Reached}
 use Rattle.search_relaxing.specs.declared.relax.Choice.{Choice}
-use Rattle.search_relaxing.specs.Steps.Town.{mostRunFeet, Ready}
-use Rattle.search_relaxing.specs.Steps.Unfound.{nothing, Unfound, spentOf, Arrives, EveryExit, toUsable, toEach, Way, Spread}
+use Rattle.search_relaxing.specs.Steps.Counted.{Counted, Ready}
+use Rattle.search_relaxing.specs.Steps.Unfound.{nothing, Unfound, spentOf, Arrives, RunBehind, EveryExit, toUsable, toEach, Way, Spread}
 
 -- ---- What is chosen
 -- No leg is offered.
@@ -70,13 +73,20 @@ Chooses net index ask here unfound c = Chosen net index (ask .tolerance) (ask .r
 
 abbrev pub Relaxing : List ℕ → Ask → Reached → List ℕ → List ℕ → List ℕ → List ℕ → Type 0
 Relaxing net ask here unfound best previous tree =
-    Settling (ask .runs) mostRunFeet (here .run) (here .label) (spentOf net unfound) best previous tree
+    Settling (ask .runs) countyFeet (here .run) (here .label) (spentOf net unfound) best previous tree
 
 -- The edges from the run may be relaxed.
 pub record Relaxable (net index : List ℕ) (ask : Ask) (here : Reached) (best previous tree unfound : List ℕ) : Type 0 where
   pub ready : Ready net index ask
   pub reaches : Reaches net ask here
   pub right : Unfound net (ask .tolerance) (ask .runs) best unfound
+  pub settling : Relaxing net ask here unfound best previous tree
+
+-- The run behind an entry may be offered.
+pub record Offerable (net : List ℕ) (ask : Ask) (here : Reached) (entry : ℕ) (best previous tree unfound : List ℕ) : Type 0 where
+  pub counted : Counted net (ask .runs)
+  pub behind : RunBehind (ask .runs) entry
+  pub long : nodesOf net ≤ length unfound
   pub settling : Relaxing net ask here unfound best previous tree
 
 -- An entry was offered: a usable run without a label got one.
@@ -92,7 +102,7 @@ pub record EdgesRelaxed (net : List ℕ) (ask : Ask) (here : Reached) (unfound b
 
 -- The labels have room for one run more by way of the run that is settled.
 pub record LabelRoom (ask : Ask) (here : Reached) (best previous : List ℕ) : Type 0 where
-  pub label : here .label + mostRunFeet < unlabelled
+  pub label : here .label + countyFeet < unlabelled
   pub scratch : Room (ask .runs) best previous
 
 -- The way back was labelled, if it was to be: it stands at the entry of the leg of arrival.

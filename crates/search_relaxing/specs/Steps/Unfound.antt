@@ -11,25 +11,27 @@ use lib.Dec.{leb, eqb}
 use lib.ListN.{length}
 use Rattle.routes.specs.Steps.Labels.{unlabelled, edgeOf}
 use Rattle.lists.specs.Lists.{at}
+use Rattle.frames.specs.Steps.Sizes.{countyFeet}
+use Rattle.network.specs.Network.{nodesOf}
 use Rattle.streets.specs.Runs.{start, finish, leavingLeg, arrivalLeg, feetOf}
 use Rattle.streets.specs.Bicycle.{bicycle, arrivalTurnLevel, arrivalCrossingLevel}
 use Rattle.streets.specs.Steps.Places.{NodeOf, LegOf}
 use Rattle.search_labels.specs.Steps.Relax.{Relaxed}
 use Rattle.search_labels.specs.Steps.Search.{Settling}
-use Rattle.search_relaxing.specs.Steps.Town.{mostRunFeet, usable}
+use Rattle.search_relaxing.specs.Steps.Counted.{usable}
 
 -- Above 1 + a leg, whichever leg it is.
 abbrev pub nothing : ℕ
 nothing = 9
 
 -- Before the search no number says anything.
-pub record Unknown (unfound : List ℕ) : Type 0 where
-  pub long : 1000 ≤ length unfound
-  pub none : (v : ℕ) → v < 1000 → at unfound v ≡ 0
+pub record Unknown (nodes : ℕ) (unfound : List ℕ) : Type 0 where
+  pub long : nodes ≤ length unfound
+  pub none : (v : ℕ) → v < nodes → at unfound v ≡ 0
 
 -- The numbers are right.
 pub record Unfound (net : List ℕ) (t n : ℕ) (best unfound : List ℕ) : Type 0 where
-  pub long : 1000 ≤ length unfound
+  pub long : nodesOf net ≤ length unfound
   pub labelled : (r : ℕ) → r < n → usable (bicycle net) t r ≡ true → (at unfound (start net r) ≡ 0 → ⊥)
       → (at unfound (start net r) ≡ leavingLeg net r + 1 → ⊥) → at best r < unlabelled
 
@@ -86,5 +88,5 @@ pub record Spread (net : List ℕ) (t n u base : ℕ) (best previous unfound bes
   pub back : Bool
   pub only : (r : ℕ) → r < n → back ≡ true → turnsBack net u r ≡ true → spentOf net unfound′ r ≡ true
   pub relaxed : Relaxed (leadsOf net t back) (feetOf net) n u base best previous best′ previous′
-  pub settling : Settling n mostRunFeet u base (spentOf net unfound′) best′ previous′ tree′
+  pub settling : Settling n countyFeet u base (spentOf net unfound′) best′ previous′ tree′
   pub noted : Noted net t n u best′ unfound unfound′

@@ -5,8 +5,8 @@ use Prim.Native.Nat.{ℕ, _≤_}
 use lib.ListN.{length}
 use Rattle.lists.specs.Lists.{at}
 use Rattle.routes.specs.Steps.Labels.{Depth}
-use Rattle.network.specs.Steps.Corners.{cornersOf, Indexed}
-use Rattle.search_relaxing.specs.Steps.Town.{mostRuns, Town}
+use Rattle.network.specs.Steps.Corners.{IndexOf}
+use Rattle.search_relaxing.specs.Steps.Counted.{mostRuns, Counted}
 
 -- The chain of `previous` from r has k runs, at most n.
 pub record Traced (n : ℕ) (previous : ℕ → ℕ) (r k : ℕ) : Type 0 where
@@ -26,7 +26,7 @@ pub record Fillable (n : ℕ) (previous : List ℕ) (r k : ℕ) (tail : List ℕ
 
 -- The level of the chain of k runs from r may be told: it is one of runs of a network.
 pub record Levellable (net index : List ℕ) (n : ℕ) (previous : List ℕ) (r k : ℕ) : Type 0 where
-  pub town : Town net n
-  pub indexed : Indexed (cornersOf net) index
+  pub counted : Counted net n
+  pub indexed : IndexOf net index
   pub long : n ≤ length previous
   pub traced : Traced n (at previous) r k

@@ -43,7 +43,6 @@ pub record SegmentAt (net : List ℕ) (s place : ℕ) : Type 0 where
 pub record NodeOf (net : List ℕ) (node r : ℕ) : Type 0 where
   pub is : r ≡ node
   pub below : r < nodesOf net
-  pub few : r < 1000
 
 -- r is this leg.
 pub record LegOf (leg r : ℕ) : Type 0 where

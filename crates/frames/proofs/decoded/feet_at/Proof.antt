@@ -25,7 +25,7 @@ part-feet-of-end : tie.Need-part-feet-of-end
 part-feet-of-end c = search needs
 
 feet-of-requires : tie.Need-feet-of-requires
-feet-of-requires c κs = (simp (length-take, length-drop) (omega arith), simp (length-take, length-drop) (omega arith))
+feet-of-requires c κs = simp (length-take, length-drop) (omega arith)
 
 returns : tie.Need-returns
 returns c =

@@ -1,8 +1,7 @@
 -- `levels::levels::put_levels` meets its contract: the lines of the segments passed stand at the front, at most 63 bytes each.
 -- Assumes nothing.
-use Rattle.levels.proofs.Printing.{Printed, printed-none, printed-more}
+use Rattle.levels.proofs.Printing.{Printed, printed-none, printed-more, page-enough}
 use Prim.Native.Nat.{_-_, _≤_}
-use Rattle.network.proofs.NetworkLaws.{passed}
 use mathlib.Core.Path.{_≡_}
 use native.Mathlib.Omega.{arith}
 use Rattle.levels.proofs.levels.put_levels.Statement.{statement}
@@ -25,7 +24,7 @@ put-level-requires c κs =
     let after-segments-of = c .before .before .before in
     let start = after-segments-of .before .before .before in
     let is = start .pre .0 in
-    (record { network = is; inside = omega (arith, after-segments-of .segments-of .ensures) }, omega (arith, c .before .before .loop .inv .0 .short, c .before .before .loop .inv .0 .same, after-segments-of .segments-of .ensures, passed (start .args .net .now) is .limits .few-segments))
+    (record { network = is; inside = omega (arith, after-segments-of .segments-of .ensures) }, omega (arith, c .before .before .loop .inv .0 .short, c .before .before .loop .inv .0 .same, after-segments-of .segments-of .ensures, page-enough (start .args .net .now) is))
 
 add-s : tie.Need-add-s Inv-loop μ-loop
 add-s c = omega arith
@@ -39,7 +38,7 @@ loop-again c =
     let after-segments-of = after-loop .before in
     let start = after-segments-of .before .before .before in
     let is = start .pre .0 in
-    (printed-more (after-loop .loop .inv .0) (c .before .before .put-level .ensures) (omega (arith, after-loop .loop .inv .0 .short, after-segments-of .segments-of .ensures, passed (start .args .net .now) is .limits .few-segments)), omega arith)
+    (printed-more (after-loop .loop .inv .0) (c .before .before .put-level .ensures) (omega (arith, after-loop .loop .inv .0 .short, after-segments-of .segments-of .ensures, page-enough (start .args .net .now) is)), omega arith)
 
 same-length : tie.Need-same-length Inv-loop μ-loop
 same-length c = c .before .loop .inv .0 .same
@@ -49,7 +48,7 @@ returns c =
     let is = c .before .before .before .before .before .pre .0 in
     let all : c .before .loop .s ≡ c .before .before .segments-of .result = omega arith in (
       rw (all, c .before .before .segments-of .ensures) at (c .before .loop .inv .0 .wrote),
-      omega (arith, c .before .loop .inv .0 .short, c .before .before .segments-of .ensures, passed (c .before .before .before .before .before .args .net .now) is .limits .few-segments),
+      omega (arith, c .before .loop .inv .0 .short, c .before .before .segments-of .ensures, page-enough (c .before .before .before .before .before .args .net .now) is),
     )
 
 pub put-levels-spec : {M : Type 1} → statement M

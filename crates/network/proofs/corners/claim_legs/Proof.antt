@@ -5,7 +5,7 @@ use mathlib.Core.Bool.{Bool, true, false, not, _&&_}
 use mathlib.Core.List.{List}
 use mathlib.Core.Path.{_≡_, sym, subst₂}
 use lib.Dec.{eqb}
-use lib.ListN.{getD, set}
+use lib.ListN.{getD, set, length-set}
 use borrow.Author.Needs.{needs}
 use Rattle.network.specs.Legs.{cornerA, cornerB}
 use Rattle.network.specs.Steps.Checks.{Claimed, freeIn}
@@ -51,14 +51,14 @@ add-b c = search needs
 mul-if1 : tie.Need-mul-if1
 mul-if1 c = search needs
 
-element-copy-out-if1 : tie.Need-element-copy-out-if1
-element-copy-out-if1 c = search needs
+slice-read-if1 : tie.Need-slice-read-if1
+slice-read-if1 c = search needs
 
 mul-if1-2 : tie.Need-mul-if1-2
 mul-if1-2 c = search needs
 
-element-copy-out-if1-2 : tie.Need-element-copy-out-if1-2
-element-copy-out-if1-2 c = search needs
+slice-read-if1-2 : tie.Need-slice-read-if1-2
+slice-read-if1-2 c = search needs
 
 mul-index : tie.Need-mul-index
 mul-index c = search needs
@@ -72,8 +72,8 @@ cast-index c = search needs
 mul-index-2 : tie.Need-mul-index-2
 mul-index-2 c = search needs
 
-element-write-index : tie.Need-element-write-index
-element-write-index c = search needs
+slice-write-index : tie.Need-slice-write-index
+slice-write-index c = search needs
 
 mul-index-3 : tie.Need-mul-index-3
 mul-index-3 c = search needs
@@ -87,8 +87,11 @@ cast-index-2 c = search needs
 mul-index-4 : tie.Need-mul-index-4
 mul-index-4 c = search needs
 
-element-write-index-2 : tie.Need-element-write-index-2
-element-write-index-2 c = search needs
+slice-write-index-2 : tie.Need-slice-write-index-2
+slice-write-index-2 c = simp length-set (search needs)
+
+same-length : tie.Need-same-length
+same-length c = search needs
 
 returns : tie.Need-returns
 returns c =
@@ -119,18 +122,19 @@ claim-legs-spec =
     byte-at-requires-2
     add-b
     mul-if1
-    element-copy-out-if1
+    slice-read-if1
     mul-if1-2
-    element-copy-out-if1-2
+    slice-read-if1-2
     mul-index
     add-index
     cast-index
     mul-index-2
-    element-write-index
+    slice-write-index
     mul-index-3
     add-index-2
     cast-index-2
     mul-index-4
-    element-write-index-2
+    slice-write-index-2
+    same-length
     returns
     returns-2)

@@ -59,11 +59,11 @@ module _ {f : List ℕ} {head : Head} {s : ℕ} {d : List ℕ} where
   no-ends z = fails (rw (z, and-false (eqb (framed 2 (frameBytes (head .edition)) f 0) 0)))
 
 framed-here : (c : tie.After-is-framed)
-    → c .is-framed .result ≡ eqb (framed 2 (frameBytes (c .before .before .args .head .edition)) (c .before .before .args .f .now) 0) 0
-framed-here c = c .is-framed .ensures ∙ ap (λ (m : ℕ). eqb (framed 2 m (c .before .before .args .f .now) 0) 0) (c .before .before .pre .0)
+    → c .is-framed .result ≡ eqb (framed 2 (frameBytes (c .before .before .before .args .head .edition)) (c .before .before .before .args .f .now) 0) 0
+framed-here c = c .is-framed .ensures ∙ ap (λ (m : ℕ). eqb (framed 2 m (c .before .before .before .args .f .now) 0) 0) (c .before .before .before .pre .0)
 
 is-framed-requires : tie.Need-is-framed-requires
-is-framed-requires c κs = omega (arith, frame-least (c .before .args .head .edition), c .before .pre .0)
+is-framed-requires c κs = omega (arith, frame-least (c .before .before .args .head .edition), c .before .before .pre .0)
 
 returns : tie.Need-returns
 returns c = not-framed (guard-stops (framed-here (c .before)) (c .if1 .taken))
@@ -76,7 +76,7 @@ returns-2 c = no-street (guard-stops (c .before .street-ok .ensures) (c .if2 .ta
 
 ends-ok-requires : tie.Need-ends-ok-requires
 ends-ok-requires c κs =
-    let start = c .before .before .before .before .before in
+    let start = c .before .before .before .before .before .before in
     omega (arith, frame-least (start .args .head .edition), start .pre .0)
 
 returns-3 : tie.Need-returns-3
@@ -84,24 +84,27 @@ returns-3 c = no-ends (guard-stops (c .before .ends-ok .ensures) (c .if3 .taken)
 
 claim-legs-requires : tie.Need-claim-legs-requires
 claim-legs-requires c κs =
-    let start = c .before .before .before .before .before .before .before .before in
+    let start = c .before .before .before .before .before .before .before .before .before in
     let a = start .args in
-    let o = corners-few (a .head .nodes) (a .f .now) (start .pre .1 .few-nodes) (guard-passes (c .before .before .ends-ok .ensures) (c .before .if3 .left)) in
+    let o = corners-few (a .head .nodes) (a .f .now) (guard-passes (c .before .before .ends-ok .ensures) (c .before .if3 .left)) in
     record {
       frame = omega (arith, frame-least (a .head .edition), start .pre .0);
-      counted = omega (arith, start .pre .2, start .pre .1 .few-segments);
-      corner-a = o .0;
-      corner-b = o .1;
+      counted = omega (arith, start .pre .1, start .pre .2 .limited .few-segments);
+      corner-a = omega (arith, o .0, start .pre .2 .room);
+      corner-b = omega (arith, o .1, start .pre .2 .room);
     }
+
+same-length : tie.Need-same-length
+same-length c = search needs
 
 returns-4 : tie.Need-returns-4
 returns-4 c =
-    let after-ends-ok = c .before .before .before in
+    let after-ends-ok = c .before .before .before .before .before in
     let after-if2 = after-ends-ok .before in
     let after-street-ok = after-if2 .before in
     let after-if1 = after-street-ok .before in
     passes (guard-passes (framed-here (after-if1 .before)) (after-if1 .if1 .left)) (guard-passes (after-street-ok .street-ok .ensures) (after-if2 .if2 .left))
-    (guard-passes (after-ends-ok .ends-ok .ensures) (c .before .before .if3 .left)) (c .claim-legs .ensures)
+    (guard-passes (after-ends-ok .ends-ok .ensures) (c .before .before .before .before .if3 .left)) (c .before .before .claim-legs .ensures)
 
 pub segment-ok-spec : {M : Type 1} → statement M
 segment-ok-spec =
@@ -114,4 +117,5 @@ segment-ok-spec =
     ends-ok-requires
     returns-3
     claim-legs-requires
+    same-length
     returns-4)

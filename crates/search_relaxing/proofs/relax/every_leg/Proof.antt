@@ -10,71 +10,54 @@ use native.Mathlib.Omega.{arith}
 use borrow.Author.Needs.{needs}
 use Rattle.search_relaxing.proofs.relax.every_leg.Statement.{statement}
 use Rattle.search_relaxing.proofs.relax.every_leg.Tie as tie
-use Rattle.search_relaxing.proofs.relax.every_leg.Reads as reads
-use Rattle.search_relaxing.proofs.relax.every_leg.Lts as lts
-use Rattle.search_relaxing.proofs.relax.no_legs.Reads as no-legs-reads
-use Rattle.streets.proofs.runs.start_of.Reads as start-of-reads
 
--- src/relax.rt:85:31
 start-of-requires : tie.Need-start-of-requires
 start-of-requires c κs = search needs
 
--- src/relax.rt:85:23
-element-copy-out-if2 : tie.Need-element-copy-out-if2
-element-copy-out-if2 c = search needs
+shared-slice-read-if2 : tie.Need-shared-slice-read-if2
+shared-slice-read-if2 c = search needs
 
--- src/relax.rt:87:24
+add-t12 : tie.Need-add-t12
+add-t12 c = search needs
+
 add-t13 : tie.Need-add-t13
 add-t13 c = search needs
 
--- src/relax.rt:86:13
 returns : tie.Need-returns
 unfolding everyLeg
 returns c =
-    let s = c .before .before .before .before .before in
+    let s = c .before .before .before .before .before .before in
     let came = ap (at (s .args .unfound .now)) (c .before .before .start-of .ensures .is) in
     let noted = at (s .args .unfound .now) (start (s .args .net .now) (s .args .here .run)) in
     rw (eq-eqb _ _ (c .before .before .before .if1 .taken), le-leb nothing noted (omega (arith, came, c .if2 .taken))) refl
 
--- src/relax.rt:94:20
 add-t8 : tie.Need-add-t8
 add-t8 c = search needs
 
--- src/relax.rt:97:23
-cast-t11 : tie.Need-cast-t11
-cast-t11 c = search needs
+cast-t10 : tie.Need-cast-t10
+cast-t10 c = search needs
 
--- src/relax.rt:97:19
-add-t14 : tie.Need-add-t14
-add-t14 c = search needs
-
--- src/relax.rt:93:9
 returns-2 : tie.Need-returns-2
 unfolding everyLeg
 returns-2 c =
-    let s = c .before .before .before .before .before in
+    let s = c .before .before .before .before .before .before in
     let came = ap (at (s .args .unfound .now)) (c .before .before .start-of .ensures .is) in
     let noted = at (s .args .unfound .now) (start (s .args .net .now) (s .args .here .run)) in
     rw (eq-eqb _ _ (c .before .before .before .if1 .taken), lt-leb nothing noted (omega (arith, came, c .if2 .left))) refl
 
--- src/relax.rt:100:17
 sub-last : tie.Need-sub-last
 sub-last c = search needs
 
--- src/relax.rt:100:16
 cast-last : tie.Need-cast-last
 cast-last c = search needs
 
--- src/relax.rt:102:9
 no-legs-requires : tie.Need-no-legs-requires
 no-legs-requires c κs = search needs
 
--- src/relax.rt:102:9
 returns-3 : tie.Need-returns-3
 unfolding everyLeg
 returns-3 c = rw (ne-eqb _ _ (c .before .before .if1 .left), eq-eqb _ _ (c .before .if3 .taken)) (c .no-legs .ensures)
 
--- src/relax.rt:79:1
 returns-4 : tie.Need-returns-4
 unfolding everyLeg
 returns-4 c = rw (ne-eqb _ _ (c .before .if1 .left), ne-eqb _ _ (c .if3 .left)) refl
@@ -84,12 +67,12 @@ every-leg-spec =
     tie.close
     (tie.spec
     start-of-requires
-    element-copy-out-if2
-    add-t13
+    shared-slice-read-if2
+    add-t12
     returns
     add-t8
-    cast-t11
-    add-t14
+    cast-t10
+    add-t13
     returns-2
     sub-last
     cast-last

@@ -13,9 +13,6 @@ use native.Mathlib.Omega.{arith}
 use borrow.Author.Needs.{needs}
 use Rattle.search_relaxing.proofs.relax.offer.Statement.{statement}
 use Rattle.search_relaxing.proofs.relax.offer.Tie as tie
-use Rattle.search_relaxing.proofs.relax.offer.Reads as reads
-use Rattle.search_relaxing.proofs.relax.offer.Lts as lts
-use Rattle.search_relaxing.proofs.relax.relax_leg.Reads as relax-leg-reads
 
 abbrev Inv-loop : tie.InvT-loop
 Inv-loop net index ask here choice best₀ previous₀ tree₀ unfound place k₀ best previous tree k =
@@ -28,48 +25,43 @@ Inv-loop net index ask here choice best₀ previous₀ tree₀ unfound place k�
 abbrev μ-loop : tie.MeasureT-loop
 μ-loop net index ask here choice best₀ previous₀ tree₀ unfound place k₀ best previous tree k = choice .count - k
 
--- src/relax.rt:181:17
 mul-place : tie.Need-mul-place Inv-loop μ-loop
-mul-place c = omega (arith, c .before .before .before .before .before .pre .0 .reaches .arrives .at-node .few)
+mul-place c = omega (arith, c .before .before .before .before .before .before .before .pre .0 .reaches .arrives .at-node .below, c .before .before .before .before .before .before .before .pre .0 .ready .indexed .room)
 
--- src/relax.rt:183:5
 loop-holds : tie.Need-loop-holds Inv-loop μ-loop
-loop-holds c = (omega arith, offered-none _ _ _ _ _ _ _, c .before .before .before .before .before .pre .0 .settling, refl)
+loop-holds c = (omega arith, offered-none _ _ _ _ _ _ _, c .before .before .before .before .before .before .before .pre .0 .settling, refl)
 
--- src/relax.rt:184:36
 add-entry : tie.Need-add-entry Inv-loop μ-loop
-add-entry c = omega (arith, c .before .before .before .before .before .before .before .before .before .pre .1 .first-leg, c .before .before .before .before .before .before .before .before .before .pre .1 .few)
+add-entry c = omega (arith, c .before .before .before .before .before .before .before .before .before .before .before .pre .1 .first-leg, c .before .before .before .before .before .before .before .before .before .before .before .pre .1 .few)
 
--- src/relax.rt:184:27
 add-entry-2 : tie.Need-add-entry-2 Inv-loop μ-loop
-add-entry-2 c = omega (arith, c .before .before .before .before .before .before .before .before .before .pre .0 .reaches .arrives .at-node .few)
+add-entry-2 c = omega (arith, c .before .before .before .before .before .before .before .before .before .before .before .pre .0 .reaches .arrives .at-node .below, c .before .before .before .before .before .before .before .before .before .before .before .pre .0 .ready .indexed .room)
 
--- src/relax.rt:184:21
 mul-entry : tie.Need-mul-entry Inv-loop μ-loop
-mul-entry c = omega (arith, c .before .before .before .before .before .before .before .before .before .pre .0 .reaches .arrives .at-node .few)
+mul-entry c = omega (arith, c .before .before .before .before .before .before .before .before .before .before .before .pre .0 .reaches .arrives .at-node .below, c .before .before .before .before .before .before .before .before .before .before .before .pre .0 .ready .indexed .room)
 
--- src/relax.rt:184:21
-element-copy-out-entry : tie.Need-element-copy-out-entry Inv-loop μ-loop
-element-copy-out-entry c = omega (arith, c .before .before .before .before .before .before .before .before .before .pre .0 .reaches .arrives .at-node .few)
+shared-slice-read-entry : tie.Need-shared-slice-read-entry Inv-loop μ-loop
+shared-slice-read-entry c = omega (arith, c .before .before .before .before .before .before .before .before .before .before .before .before .pre .0 .reaches .arrives .at-node .below, c .before .before .before .before .before .before .before .before .before .before .before .before .pre .0 .ready .indexed .room)
 
--- src/relax.rt:185:9
 relax-leg-requires : tie.Need-relax-leg-requires Inv-loop μ-loop
 relax-leg-requires c κs =
-    let s = c .before .before .before .before .before .before .before .before .before .before .before .before .before in
-    (s .pre .0 .ready .town, s .pre .1 .ways _ (c .before .before .before .before .before .if1 .taken) .inside, c .before .before .before .before .before .before .before .loop .inv .2)
+    let s = c .before .before .before .before .before .before .before .before .before .before .before .before .before .before .before in
+    record {
+      counted = s .pre .0 .ready .counted;
+      behind = s .pre .1 .ways _ (c .before .before .before .before .before .if1 .taken) .inside;
+      long = s .pre .0 .right .long;
+      settling = c .before .before .before .before .before .before .before .loop .inv .2;
+    }
 
--- src/relax.rt:186:9
 add-k : tie.Need-add-k Inv-loop μ-loop
 add-k c = search needs
 
--- src/relax.rt:183:5
 loop-less : tie.Need-loop-less Inv-loop μ-loop
 loop-less c = search needs
 
--- src/relax.rt:183:5
 loop-again : tie.Need-loop-again Inv-loop μ-loop
 loop-again c =
-    let s = c .before .before .before .before .before .before .before .before .before .before .before .before .before .before .before .before .before .before .before .before in
+    let s = c .before .before .before .before .before .before .before .before .before .before .before .before .before .before .before .before .before .before .before .before .before .before in
     let i = c .before .before .before .before .before .before .before .before .before .before .before .before .before .before .loop .inv in
     let o = c .before .before .before .before .before .before .relax-leg in
     let W = s .pre .1 .ways _ (c .before .before .before .before .before .before .before .before .before .before .before .before .if1 .taken) in
@@ -80,22 +72,18 @@ loop-again c =
       o .kept .1 .1 .1 .1 .1 .1 .0 ∙ i .3,
     )
 
--- src/relax.rt:167:1
 same-length : tie.Need-same-length Inv-loop μ-loop
 same-length c = search needs
 
--- src/relax.rt:167:1
 same-length-2 : tie.Need-same-length-2 Inv-loop μ-loop
 same-length-2 c = search needs
 
--- src/relax.rt:167:1
 same-length-3 : tie.Need-same-length-3 Inv-loop μ-loop
 same-length-3 c = search needs
 
--- src/relax.rt:167:1
 returns : tie.Need-returns Inv-loop μ-loop
 returns c =
-    let s = c .before .before .before .before .before .before .before .before in
+    let s = c .before .before .before .before .before .before .before .before .before .before in
     let i = c .before .before .loop .inv in
     let e : c .before .before .loop .k ≡ s .args .choice .count = omega (arith, i .0, c .if1 .left) in
     record {
@@ -114,7 +102,7 @@ offer-spec =
     add-entry
     add-entry-2
     mul-entry
-    element-copy-out-entry
+    shared-slice-read-entry
     relax-leg-requires
     add-k
     loop-less

@@ -5,47 +5,37 @@ use native.Mathlib.Omega.{arith}
 use borrow.Author.Needs.{needs}
 use Rattle.search_relaxing.proofs.relax.relax.Statement.{statement}
 use Rattle.search_relaxing.proofs.relax.relax.Tie as tie
-use Rattle.search_relaxing.proofs.relax.relax.Reads as reads
-use Rattle.search_relaxing.proofs.relax.relax.Lts as lts
-use Rattle.search_relaxing.proofs.relax.choose.Reads as choose-reads
-use Rattle.search_relaxing.proofs.relax.label_back.Reads as label-back-reads
-use Rattle.search_relaxing.proofs.relax.offer.Reads as offer-reads
 
--- src/relax.rt:233:9
 choose-requires : tie.Need-choose-requires
 choose-requires c κs = search needs
 
--- src/relax.rt:234:5
 offer-requires : tie.Need-offer-requires
 offer-requires c κs = search needs
 
--- src/relax.rt:235:5
 label-back-requires : tie.Need-label-back-requires
 label-back-requires c κs = search needs
 
--- src/relax.rt:236:5
-element-write-unfound : tie.Need-element-write-unfound
-element-write-unfound c =
-    omega (arith, c .before .before .before .before .before .before .before .before .before .before .before .before .before .before .before .before .before .before .before .before .before .before .before .before .pre .reaches .arrives .at-node .few)
+slice-write-unfound : tie.Need-slice-write-unfound
+slice-write-unfound c =
+    omega (arith, c .before .before .before .before .before .before .before .before .before .before .before .before .before .before .before .before .before .before .before .before .before .before .before .before .before .before .pre .reaches .arrives .at-node .below, c .before .before .before .before .before .before .before .before .before .before .before .before .before .before .before .before .before .before .before .before .before .before .before .before .before .before .pre .right .long)
 
--- src/relax.rt:219:1
 same-length : tie.Need-same-length
 same-length c = search needs
 
--- src/relax.rt:219:1
 same-length-2 : tie.Need-same-length-2
 same-length-2 c = search needs
 
--- src/relax.rt:219:1
 same-length-3 : tie.Need-same-length-3
 same-length-3 c = search needs
 
--- src/relax.rt:219:1
+same-length-4 : tie.Need-same-length-4
+same-length-4 c = search needs
+
 returns : tie.Need-returns
 returns c =
-    let s = c .before .before .before .before .before .before .before .before .before .before .before .before .before .before .before .before .before .before .before .before .before .before .before .before in
+    let s = c .before .before .before .before .before .before .before .before .before .before .before .before .before .before .before .before .before .before .before .before .before .before .before .before .before .before in
     let o = c .before .before .before .before .before .before .before .before .before .before .before .before .before .offer .ensures in
-    spread-chosen (s .pre .ready .town) (s .pre .ready .indexed) (s .pre .reaches .arrives) (s .pre .right) (o .relaxed) (o .settling)
+    spread-chosen (s .pre .ready .counted) (s .pre .ready .indexed) (s .pre .reaches .arrives) (s .pre .right) (o .relaxed) (o .settling)
     (c .before .before .before .before .before .before .before .before .before .before .before .before .before .before .before .before .before .before .choose .ensures)
     (c .before .before .before .before .label-back .ensures)
 
@@ -56,8 +46,9 @@ relax-spec =
     choose-requires
     offer-requires
     label-back-requires
-    element-write-unfound
+    slice-write-unfound
     same-length
     same-length-2
     same-length-3
+    same-length-4
     returns)

@@ -3,24 +3,17 @@
 use mathlib.Core.Path.{_∙_}
 use borrow.Author.Tests.{eq-eqb, ne-eqb}
 use Rattle.search_relaxing.specs.Steps.Choice.{rightLeg}
-use native.Mathlib.Omega.{arith}
 use borrow.Author.Needs.{needs}
 use Rattle.search_relaxing.proofs.relax.right_leg.Statement.{statement}
 use Rattle.search_relaxing.proofs.relax.right_leg.Tie as tie
-use Rattle.search_relaxing.proofs.relax.right_leg.Reads as reads
-use Rattle.search_relaxing.proofs.relax.right_leg.Lts as lts
-use Rattle.search_relaxing.proofs.relax.no_legs.Reads as no-legs-reads
 
--- src/relax.rt:68:9
 no-legs-requires : tie.Need-no-legs-requires
 no-legs-requires c κs = search needs
 
--- src/relax.rt:68:9
 returns : tie.Need-returns
 unfolding rightLeg
 returns c = c .no-legs .ensures ∙ simp (eq-eqb _ _ (c .before .if1 .taken))
 
--- src/relax.rt:64:1
 returns-2 : tie.Need-returns-2
 unfolding rightLeg
 returns-2 c = simp (ne-eqb _ _ (c .if1 .left))

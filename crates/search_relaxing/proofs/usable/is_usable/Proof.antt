@@ -4,7 +4,7 @@
 use mathlib.Core.Path.{sym, _∙_, ap}
 use Prim.Native.Nat.{ℕ}
 use lib.Dec.{leb}
-use Rattle.search_relaxing.specs.Steps.Town.{usable}
+use Rattle.search_relaxing.specs.Steps.Counted.{usable}
 use borrow.Author.Needs.{needs}
 use Rattle.search_relaxing.proofs.usable.is_usable.Statement.{statement}
 use Rattle.search_relaxing.proofs.usable.is_usable.Tie as tie

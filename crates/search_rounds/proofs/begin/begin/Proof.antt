@@ -6,19 +6,15 @@ use Prim.Native.Nat.{_*_, _-_, _≤_}
 use lib.ListN.{length}
 use Rattle.routes.proofs.Walks.{true-source}
 use Rattle.streets.specs.Bicycle.{bicycle}
-use Rattle.streets.proofs.LeavingLaws.{node-small, entry-leaves, leaving-entry}
+use Rattle.streets.proofs.LeavingLaws.{entry-leaves, leaving-entry}
 use Rattle.search_labels.proofs.Beginning.{Started, started-none, started-keys, started-more, started-begun, started-queued}
-use Rattle.search_relaxing.specs.Steps.Town.{askedGraph}
-use Rattle.search_relaxing.proofs.TownLaws.{run-of, fair, entry-few}
+use Rattle.search_relaxing.specs.Steps.Counted.{askedGraph}
+use Rattle.search_relaxing.proofs.CountedLaws.{run-of, fair, entry-few}
 use Rattle.search_relaxing.proofs.TestLaws.{source-usable}
 use native.Mathlib.Omega.{arith}
 use borrow.Author.Needs.{needs}
 use Rattle.search_rounds.proofs.begin.begin.Statement.{statement}
 use Rattle.search_rounds.proofs.begin.begin.Tie as tie
-use Rattle.search_rounds.proofs.begin.begin.Reads as reads
-use Rattle.search_rounds.proofs.begin.begin.Lts as lts
-use Rattle.search_labels.proofs.clear_labels.Reads as clear-labels-reads
-use Rattle.search_rounds.proofs.begin.begin_at.Reads as begin-at-reads
 
 abbrev Inv-loop : tie.InvT-loop
 Inv-loop net index ask best₀ previous₀ tree₀ leg₀ best previous tree leg =
@@ -31,66 +27,56 @@ Inv-loop net index ask best₀ previous₀ tree₀ leg₀ best previous tree leg
 abbrev μ-loop : tie.MeasureT-loop
 μ-loop net index ask best₀ previous₀ tree₀ leg₀ best previous tree leg = 8 - leg
 
--- src/begin.rt:47:5
 clear-labels-requires : tie.Need-clear-labels-requires Inv-loop μ-loop
-clear-labels-requires c κs = c .before .before .before .before .before .pre .1 .best-fits
+clear-labels-requires c κs = c .before .before .before .before .before .before .pre .1 .best-fits
 
--- src/begin.rt:49:5
 loop-holds : tie.Need-loop-holds Inv-loop μ-loop
-loop-holds c = (omega arith, started-none (c .before .before .clear-labels .ensures) (c .before .before .before .before .before .before .before .before .pre .2) _ _ _, refl, refl, refl)
+loop-holds c = (omega arith, started-none (c .before .before .clear-labels .ensures) (c .before .before .before .before .before .before .before .before .before .pre .2) _ _ _, refl, refl, refl)
 
--- src/begin.rt:50:34
 mul-begin-at : tie.Need-mul-begin-at Inv-loop μ-loop
-mul-begin-at c = omega (arith, node-small (c .before .before .before .before .before .before .before .before .before .before .before .args .net .now) (c .before .before .before .before .before .before .before .before .before .before .before .pre .0 .town .network) (c .before .before .before .before .before .before .before .before .before .before .before .pre .0 .from-node))
+mul-begin-at c = omega (arith, c .before .before .before .before .before .before .before .before .before .before .before .before .pre .0 .from-node, c .before .before .before .before .before .before .before .before .before .before .before .before .pre .0 .indexed .room)
 
--- src/begin.rt:50:34
 add-begin-at : tie.Need-add-begin-at Inv-loop μ-loop
-add-begin-at c = omega (arith, node-small (c .before .before .before .before .before .before .before .before .before .before .before .args .net .now) (c .before .before .before .before .before .before .before .before .before .before .before .pre .0 .town .network) (c .before .before .before .before .before .before .before .before .before .before .before .pre .0 .from-node))
+add-begin-at c = omega (arith, c .before .before .before .before .before .before .before .before .before .before .before .before .pre .0 .from-node, c .before .before .before .before .before .before .before .before .before .before .before .before .pre .0 .indexed .room)
 
--- src/begin.rt:50:28
 mul-begin-at-2 : tie.Need-mul-begin-at-2 Inv-loop μ-loop
-mul-begin-at-2 c = omega (arith, node-small (c .before .before .before .before .before .before .before .before .before .before .before .args .net .now) (c .before .before .before .before .before .before .before .before .before .before .before .pre .0 .town .network) (c .before .before .before .before .before .before .before .before .before .before .before .pre .0 .from-node))
+mul-begin-at-2 c = omega (arith, c .before .before .before .before .before .before .before .before .before .before .before .before .pre .0 .from-node, c .before .before .before .before .before .before .before .before .before .before .before .before .pre .0 .indexed .room)
 
--- src/begin.rt:50:28
-element-copy-out-begin-at : tie.Need-element-copy-out-begin-at Inv-loop μ-loop
-element-copy-out-begin-at c = omega (arith, node-small (c .before .before .before .before .before .before .before .before .before .before .before .args .net .now) (c .before .before .before .before .before .before .before .before .before .before .before .pre .0 .town .network) (c .before .before .before .before .before .before .before .before .before .before .before .pre .0 .from-node))
+shared-slice-read-begin-at : tie.Need-shared-slice-read-begin-at Inv-loop μ-loop
+shared-slice-read-begin-at c = omega (arith, c .before .before .before .before .before .before .before .before .before .before .before .before .before .pre .0 .from-node, c .before .before .before .before .before .before .before .before .before .before .before .before .before .pre .0 .indexed .room)
 
--- src/begin.rt:50:9
 begin-at-requires : tie.Need-begin-at-requires Inv-loop μ-loop
 begin-at-requires c κs =
-    let s = c .before .before .before .before .before .before .before .before .before .before .before .before .before .before .before in
+    let s = c .before .before .before .before .before .before .before .before .before .before .before .before .before .before .before .before in
     let R = s .pre .0 in
     let i = c .before .before .before .before .before .before .loop .inv in
     record {
-      town = R .town;
-      few = entry-few (R .town) (entry-leaves (s .args .net .now) (R .town .network) (R .indexed) (R .from-node) (c .before .before .before .before .before .loop-test .taken));
+      counted = R .counted;
+      few = entry-few (R .counted) (entry-leaves (s .args .net .now) (R .counted .network) (R .indexed) (R .from-node) (c .before .before .before .before .before .loop-test .taken));
       room =
           record {
             best-fits = omega (arith, s .pre .1 .best-fits, i .2, c .before .before .before .before .before .before .before .before .before .clear-labels .kept .1 .0);
             previous-fits = omega (arith, s .pre .1 .previous-fits, i .3);
           };
       queue = i .1 .queue;
-      none-earlier = started-keys (i .1) (fair (R .town));
+      none-earlier = started-keys (i .1) (fair (R .counted));
     }
 
--- src/begin.rt:51:9
 add-leg : tie.Need-add-leg Inv-loop μ-loop
 add-leg c = search needs
 
--- src/begin.rt:49:5
 loop-less : tie.Need-loop-less Inv-loop μ-loop
 loop-less c = search needs
 
--- src/begin.rt:49:5
 loop-again : tie.Need-loop-again Inv-loop μ-loop
 loop-again c =
-    let s = c .before .before .before .before .before .before .before .before .before .before .before .before .before .before .before .before .before .before .before .before .before .before in
+    let s = c .before .before .before .before .before .before .before .before .before .before .before .before .before .before .before .before .before .before .before .before .before .before .before in
     let R = s .pre .0 in
     let i = c .before .before .before .before .before .before .before .before .before .before .before .before .before .loop .inv in
     let o = c .before .before .before .before .before .before .begin-at in
-    let E = entry-leaves (s .args .net .now) (R .town .network) (R .indexed) (R .from-node) (c .before .before .before .before .before .before .before .before .before .before .before .before .loop-test .taken) in (
+    let E = entry-leaves (s .args .net .now) (R .counted .network) (R .indexed) (R .from-node) (c .before .before .before .before .before .before .before .before .before .before .before .before .loop-test .taken) in (
       omega (arith, c .before .before .before .before .before .before .before .before .before .before .before .before .loop-test .taken),
-      started-more (i .1) (λ r x. let L = E .leaving r x in (omega (arith, R .town .count, L .inside), source-usable L (s .args .ask .tolerance)))
+      started-more (i .1) (λ r x. let L = E .leaving r x in (omega (arith, R .counted .count, L .inside), source-usable L (s .args .ask .tolerance)))
           (omega (arith, s .pre .1 .best-fits, i .2, c .before .before .before .before .before .before .before .before .before .before .before .before .before .before .before .before .clear-labels .kept .1 .0)) (omega (arith, s .pre .1 .previous-fits, i .3))
           (o .ensures),
       o .kept .1 .1 .1 .0 ∙ i .2,
@@ -98,22 +84,18 @@ loop-again c =
       o .kept .1 .1 .1 .1 .1 .0 ∙ i .4,
     )
 
--- src/begin.rt:36:1
 same-length : tie.Need-same-length Inv-loop μ-loop
 same-length c = search needs
 
--- src/begin.rt:36:1
 same-length-2 : tie.Need-same-length-2 Inv-loop μ-loop
 same-length-2 c = search needs
 
--- src/begin.rt:36:1
 same-length-3 : tie.Need-same-length-3 Inv-loop μ-loop
 same-length-3 c = search needs
 
--- src/begin.rt:36:1
 returns : tie.Need-returns Inv-loop μ-loop
 returns c =
-    let s = c .before .before .before .before .before .before .before .before .before .before in
+    let s = c .before .before .before .before .before .before .before .before .before .before .before in
     let R = s .pre .0 in
     let e : c .before .loop .leg ≡ 8 = omega arith in
     let S = rw e at (c .before .loop .inv .1) in
@@ -121,7 +103,7 @@ returns c =
       labels =
           started-begun S
           (λ r l h.
-          leaving-entry (s .args .net .now) (R .town .network) (R .indexed) (run-of (R .town) l) (s .args .ask .from)
+          leaving-entry (s .args .net .now) (R .counted .network) (R .indexed) (run-of (R .counted) l) (s .args .ask .from)
           (true-source (bicycle (s .args .net .now)) (s .args .ask .tolerance) (s .args .ask .from) r h .leaves));
       queued = started-queued S;
     }
@@ -137,7 +119,7 @@ begin-spec =
     mul-begin-at
     add-begin-at
     mul-begin-at-2
-    element-copy-out-begin-at
+    shared-slice-read-begin-at
     begin-at-requires
     add-leg
     loop-less

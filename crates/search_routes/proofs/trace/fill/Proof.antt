@@ -1,5 +1,5 @@
 -- The chain is written from its last run backwards. Before each store the chain that is left, put in front of what is written, is the whole chain;
--- when none is left it stands at the front of the tail. A run is below 2,000, so it fits 16 bits.
+-- when none is left it stands at the front of the tail. No network has so many runs that one does not fit 16 bits.
 -- Assumes nothing.
 use Rattle.lists.specs.Lists.{at}
 use Rattle.search_routes.proofs.Tracing.{Filled, filled-none, filled-inside, filled-more, filled-all}

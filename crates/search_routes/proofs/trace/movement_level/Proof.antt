@@ -17,9 +17,14 @@ level-onto-requires c κs = search needs
 
 returns : tie.Need-returns
 returns c =
-    let start = c .before .before .before .before in
+    let start = c .before .before .before .before .before in
     c .level-onto .ensures ∙ level-of-movement (c .before .before .arrival-of .ensures) (start .args .next) _ (c .before .leaving-leg .ensures .is)
 
 pub movement-level-spec : {M : Type 1} → statement M
 movement-level-spec =
-    tie.close (tie.spec arrival-of-requires leaving-leg-requires level-onto-requires returns)
+    tie.close
+    (tie.spec
+    arrival-of-requires
+    leaving-leg-requires
+    level-onto-requires
+    returns)

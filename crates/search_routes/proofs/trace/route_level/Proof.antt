@@ -7,7 +7,7 @@ use Rattle.lists.specs.Lists.{at}
 use Rattle.streets.specs.Bicycle.{bicycle}
 use Rattle.search_routes.proofs.Tracing.{traced-some}
 use Rattle.search_routes.proofs.Levels.{Levelled, levelled-one, levelled-inside, levelled-more, levelled-all}
-use Rattle.search_relaxing.proofs.TownLaws.{run-of}
+use Rattle.search_relaxing.proofs.CountedLaws.{run-of}
 use native.Mathlib.Omega.{arith}
 use borrow.Author.Needs.{needs}
 use Rattle.search_routes.proofs.trace.route_level.Statement.{statement}
@@ -20,13 +20,13 @@ abbrev μ-loop : tie.MeasureT-loop
 μ-loop net index n previous last count level₀ next₀ before₀ level next before = before
 
 run-level-requires : tie.Need-run-level-requires Inv-loop μ-loop
-run-level-requires c κs = run-of (c .before .before .pre .town) (traced-some (c .before .before .pre .traced) .1)
+run-level-requires c κs = run-of (c .before .before .before .pre .counted) (traced-some (c .before .before .before .pre .traced) .1)
 
 sub-before : tie.Need-sub-before Inv-loop μ-loop
-sub-before c = omega (arith, traced-some (c .before .before .before .pre .traced) .0)
+sub-before c = omega (arith, traced-some (c .before .before .before .before .pre .traced) .0)
 
 loop-holds : tie.Need-loop-holds Inv-loop μ-loop
-loop-holds c = levelled-one _ (c .before .before .before .pre .traced) (c .run-level .ensures)
+loop-holds c = levelled-one _ (c .before .before .before .before .pre .traced) (c .run-level .ensures)
 
 mul-run : tie.Need-mul-run Inv-loop μ-loop
 mul-run c = search needs
@@ -35,13 +35,13 @@ shared-slice-read-run : tie.Need-shared-slice-read-run Inv-loop μ-loop
 shared-slice-read-run c = search needs
 
 cast-run : tie.Need-cast-run Inv-loop μ-loop
-cast-run c = omega (arith, c .shared-slice-known3 .given (c .before .before .loop .next))
+cast-run c = omega (arith, c .shared-slice-known4 .given (c .before .before .loop .next))
 
 movement-level-requires : tie.Need-movement-level-requires Inv-loop μ-loop
 movement-level-requires c κs =
-    let s = c .before .before .before .before .before .before in
+    let s = c .before .before .before .before .before .before .before in
     let H = c .before .before .loop .inv in
-    (run-of (s .pre .town) (levelled-inside H (c .before .loop-test .taken)), run-of (s .pre .town) (H .inside), s .pre .indexed)
+    (run-of (s .pre .counted) (levelled-inside H (c .before .loop-test .taken)), run-of (s .pre .counted) (H .inside), s .pre .indexed)
 
 greater-requires : tie.Need-greater-requires Inv-loop μ-loop
 greater-requires c κs = search needs
@@ -50,8 +50,8 @@ run-level-requires-2 : tie.Need-run-level-requires-2 Inv-loop μ-loop
 run-level-requires-2 c κs =
     let after-loop-test = c .before .before .before in
     let after-loop = after-loop-test .before in
-    let start = after-loop .before .before .before .before in
-    run-of (start .pre .town) (levelled-inside (after-loop .loop .inv) (after-loop-test .loop-test .taken))
+    let start = after-loop .before .before .before .before .before in
+    run-of (start .pre .counted) (levelled-inside (after-loop .loop .inv) (after-loop-test .loop-test .taken))
 
 greater-requires-2 : tie.Need-greater-requires-2 Inv-loop μ-loop
 greater-requires-2 c κs = search needs

@@ -9,6 +9,7 @@ use native.Mathlib.Omega.{arith}
 use lib.Dec.{ltb}
 use lib.ListN.{length}
 use borrow.Author.Tests.{lt-ltb, le-ltb, not-true, not-false}
+use borrow.Author.Needs.{needs}
 use Rattle.lists.proofs.Facts.{true-and, guard-stops, guard-passes}
 use Rattle.refusals.specs.declared.Refusal.the-variants.{WrongField, WrongCount, LegTaken}
 use Rattle.frames.specs.declared.Head.{Head}
@@ -49,51 +50,57 @@ module _ {f : List ℕ} {next : ℕ} {head : Head} {s : ℕ} {d : List ℕ} (w :
 long : (c : tie.Start) → length (c .args .frame .now) ≡ frameBytes (c .args .head .edition)
 long c = framed-has 2 (frameBytes (c .args .head .edition)) (c .args .frame .now) 0 (c .pre .0) .long
 
-counted : (c : tie.Else1) → ltb (c .before .before .before .args .s) (c .before .before .before .args .head .segments) ≡ true
+counted : (c : tie.Else1) → ltb (c .before .before .before .before .args .s) (c .before .before .before .before .args .head .segments) ≡ true
 counted c = lt-ltb _ _ (c .if1 .left)
 
 returns : tie.Need-returns
-returns c = beyond (c .before .before .before .pre .0) (le-ltb _ _ (c .if1 .taken))
+returns c = beyond (c .before .before .before .before .pre .0) (le-ltb _ _ (c .if1 .taken))
 
 street-ok-requires : tie.Need-street-ok-requires
-street-ok-requires c κs = omega (arith, long (c .before .before .before))
+street-ok-requires c κs = omega (arith, long (c .before .before .before .before))
 
 returns-2 : tie.Need-returns-2
 returns-2 c =
-    wrong-field (c .before .before .before .before .before .pre .0) (counted (c .before .before)) (rw (guard-stops (c .before .street-ok .ensures) (c .if2 .taken), and-false))
+    wrong-field (c .before .before .before .before .before .before .pre .0) (counted (c .before .before)) (rw (guard-stops (c .before .street-ok .ensures) (c .if2 .taken), and-false))
 
 ends-ok-requires : tie.Need-ends-ok-requires
-ends-ok-requires c κs = omega (arith, long (c .before .before .before .before .before), frame-least (c .before .before .before .before .before .args .head .edition))
+ends-ok-requires c κs = omega (arith, long (c .before .before .before .before .before .before), frame-least (c .before .before .before .before .before .before .args .head .edition))
 
 returns-3 : tie.Need-returns-3
-returns-3 c = wrong-field (c .before .before .before .before .before .before .before .pre .0) (counted (c .before .before .before .before)) (rw (guard-stops (c .before .ends-ok .ensures) (c .if3 .taken)))
+returns-3 c = wrong-field (c .before .before .before .before .before .before .before .before .pre .0) (counted (c .before .before .before .before)) (rw (guard-stops (c .before .ends-ok .ensures) (c .if3 .taken)))
 
 claim-legs-requires : tie.Need-claim-legs-requires
 claim-legs-requires c κs =
-    let start = c .before .before .before .before .before .before .before .before in
+    let start = c .before .before .before .before .before .before .before .before .before in
     let a = start .args in
-    let below = corners-few (a .head .nodes) (a .frame .now) (start .pre .1 .few-nodes) (guard-passes (c .before .before .ends-ok .ensures) (c .before .if3 .left)) in
+    let below = corners-few (a .head .nodes) (a .frame .now) (guard-passes (c .before .before .ends-ok .ensures) (c .before .if3 .left)) in
     record {
       frame = omega (arith, long start, frame-least (a .head .edition));
-      counted = omega (arith, c .before .before .before .before .before .if1 .left, start .pre .1 .few-segments);
-      corner-a = below .0;
-      corner-b = below .1;
+      counted = omega (arith, c .before .before .before .before .before .if1 .left, start .pre .1 .limited .few-segments);
+      corner-a = omega (arith, below .0, start .pre .1 .room);
+      corner-b = omega (arith, below .1, start .pre .1 .room);
     }
 
-fields : (c : tie.Else3) → let a = c .before .before .before .before .before .before .before .args in (endsOk (a .head .nodes) (a .frame .now) && streetOk (a .head .edition) (a .frame .now)) ≡ true
+same-length : tie.Need-same-length
+same-length c = search needs
+
+fields : (c : tie.Else3) → let a = c .before .before .before .before .before .before .before .before .args in (endsOk (a .head .nodes) (a .frame .now) && streetOk (a .head .edition) (a .frame .now)) ≡ true
 fields c =
     true-and _ _ (guard-passes (c .before .ends-ok .ensures) (c .if3 .left))
     (guard-passes (c .before .before .before .street-ok .ensures) (c .before .before .if2 .left))
 
 returns-4 : tie.Need-returns-4
 returns-4 c =
-    leg-taken (c .before .before .before .before .before .before .before .before .before .before .pre .0) (counted (c .before .before .before .before .before .before .before)) (fields (c .before .before .before))
-    (rw (not-true (c .before .claim-legs .result) (c .if4 .taken)) at (c .before .claim-legs .ensures))
+    leg-taken (c .before .before .before .before .before .before .before .before .before .before .before .before .before .pre .0) (counted (c .before .before .before .before .before .before .before .before .before)) (fields (c .before .before .before .before .before))
+    (rw (not-true (c .before .before .before .claim-legs .result) (c .if4 .taken)) at (c .before .before .before .claim-legs .ensures))
+
+same-length-2 : tie.Need-same-length-2
+same-length-2 c = search needs
 
 returns-5 : tie.Need-returns-5
 returns-5 c =
-    faultless (c .before .before .before .before .before .before .before .before .before .before .pre .0) (counted (c .before .before .before .before .before .before .before)) (fields (c .before .before .before))
-    (rw (not-false (c .before .claim-legs .result) (c .if4 .left)) at (c .before .claim-legs .ensures))
+    faultless (c .before .before .before .before .before .before .before .before .before .before .before .before .before .pre .0) (counted (c .before .before .before .before .before .before .before .before .before)) (fields (c .before .before .before .before .before))
+    (rw (not-false (c .before .before .before .claim-legs .result) (c .if4 .left)) at (c .before .before .before .claim-legs .ensures))
 
 pub judge-frame-spec : {M : Type 1} → statement M
 judge-frame-spec =
@@ -105,5 +112,7 @@ judge-frame-spec =
     ends-ok-requires
     returns-3
     claim-legs-requires
+    same-length
     returns-4
+    same-length-2
     returns-5)

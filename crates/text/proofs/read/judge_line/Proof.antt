@@ -27,17 +27,17 @@ module _ {t : List ℕ} {at : ℕ} {head : Head} {s : ℕ} {d : List ℕ} where
   by-frame {d′ = d′} {r = r} w h =
       subst₂ (λ (x : List ℕ) (i : ℕ). SegmentJudged x i head s d d′ r) (w .bytes) (w .next-is) h
 
-frame-here : (c : tie.After-known-told2) → let a = c .before .before .before .before .before .before .before .before .before .args in
+frame-here : (c : tie.After-known-told2) → let a = c .before .before .before .before .before .before .before .before .before .before .args in
     Framing 2 (frameBytes (a .head .edition)) (a .text .now) (a .at) (c .before .before .before .before .before .frame-line .last .1 .1 .1 .0)
     (c .before .next .given .0 .0)
 frame-here c =
-    framing (c .before .before .before .before .before .before .before .before .before .pre .2)
+    framing (c .before .before .before .before .before .before .before .before .before .before .pre .2)
     (c .before .before .before .before .before .frame-line .ensures) (c .before .next .given .1)
 
 frame-line-requires : tie.Need-frame-line-requires
 frame-line-requires c κs =
-    let e = c .before .before .before .args .head .edition in
-    let l = c .before .before .before .pre .2 in (omega arith, omega (arith, frame-least e, l), omega (arith, frame-most e, l))
+    let e = c .before .before .before .before .args .head .edition in
+    let l = c .before .before .before .before .pre .2 in (omega arith, omega (arith, frame-least e, l), omega (arith, frame-most e, l))
 
 enum-known-fault : tie.Need-enum-known-fault
 enum-known-fault c = search needs
@@ -46,21 +46,24 @@ enum-known-next : tie.Need-enum-known-next
 enum-known-next c = search needs
 
 judge-frame-requires : tie.Need-judge-frame-requires
-judge-frame-requires c κs = (frame-here (c .before .before) .good, c .before .before .before .before .before .before .before .before .before .before .before .pre .1)
+judge-frame-requires c κs = (frame-here (c .before .before) .good, c .before .before .before .before .before .before .before .before .before .before .before .before .pre .1)
 
 same-length : tie.Need-same-length
 same-length c = search needs
 
 returns : tie.Need-returns
 returns c =
-    bad-line (c .before .before .before .before .before .before .before .before .before .pre .2)
+    bad-line (c .before .before .before .before .before .before .before .before .before .before .pre .2)
     (c .before .before .before .before .before .frame-line .ensures) (c .before .fault .given .1)
 
 same-length-2 : tie.Need-same-length-2
 same-length-2 c = search needs
 
+same-length-3 : tie.Need-same-length-3
+same-length-3 c = search needs
+
 returns-2 : tie.Need-returns-2
-returns-2 c = by-frame (frame-here (c .before .before .before)) (c .judge-frame .ensures)
+returns-2 c = by-frame (frame-here (c .before .before .before .before .before)) (c .before .before .judge-frame .ensures)
 
 pub judge-line-spec : {M : Type 1} → statement M
 judge-line-spec =
@@ -73,4 +76,5 @@ judge-line-spec =
     same-length
     returns
     same-length-2
+    same-length-3
     returns-2)

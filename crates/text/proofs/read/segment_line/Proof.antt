@@ -17,9 +17,12 @@ slice-aggregate-judge-line c = simp length-take (omega (arith, c .before .frame-
 
 judge-line-requires : tie.Need-judge-line-requires
 judge-line-requires c κs =
-    let p = c .before .before .before .before .pre in
+    let p = c .before .before .before .before .before .pre in
     let size = c .before .before .frame-bytes .ensures in
     (p .0, p .1, simp length-take (omega (arith, size .most, size .is)))
+
+same-length : tie.Need-same-length
+same-length c = search needs
 
 returns : tie.Need-returns
 returns c = search needs
@@ -32,4 +35,5 @@ segment-line-spec =
     array-borrow-prefix-frame
     slice-aggregate-judge-line
     judge-line-requires
+    same-length
     returns)

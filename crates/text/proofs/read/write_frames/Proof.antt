@@ -9,6 +9,7 @@ use lib.ListN.{length, drop, take, length-append, length-take, length-drop, take
 use lib.Seq.{take-at, drop-at, drop-drop, drop-append-add}
 use borrow.Author.Needs.{needs}
 use Rattle.lists.proofs.Lists.{times-next}
+use Rattle.frames.specs.Steps.Sizes.{mostBytes}
 use Rattle.digits.specs.Steps.Scan.{spelled}
 use Rattle.digits.proofs.DigitLaws.{length-spelled}
 use Rattle.text.specs.Steps.Spelled.{spelledLines, spelledText}
@@ -108,7 +109,7 @@ room-here : (c : tie.In-loop Inv-loop μ-loop)
     → (c .before .loop .out + c .before .before .before .before .before .before .before .before .args .size ≤ length (c .before .loop .output))
     × (c .before .loop .at + (2 * c .before .before .before .before .before .before .before .before .args .size + 1) ≤ length
     (c .before .before .before .before .before .before .before .before .args .text .now)) ×
-    (c .before .before .before .before .before .before .before .before .args .size ≤ 32)
+    (c .before .before .before .before .before .before .before .before .args .size ≤ mostBytes)
 room-here c =
     let r = rooms (c .before .loop .inv) (c .loop-test .taken) in
     (omega (arith, r .0, c .before .loop .inv .long), r .1, c .before .before .before .before .before .before .before .before .pre .2)

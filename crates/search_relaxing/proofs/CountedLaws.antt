@@ -1,4 +1,4 @@
--- A kept network is a graph that the search takes: a run has 1 to 52,800 feet, and 2,000 such runs fit a label.
+-- A kept network is a graph that the search takes: a run has 1 to a county's most feet, and a county's most runs of so many feet fit a label.
 -- Assumes nothing.
 use mathlib.Core.Path.{_≡_, sym, ap}
 use mathlib.Core.Bool.{true}
@@ -6,39 +6,35 @@ use mathlib.Core.List.{List}
 use Prim.Native.Nat.{ℕ, zero, suc, _+_, _-_, _*_, _≤_, _<_}
 use native.Mathlib.Numerals.{add-one}
 use native.Mathlib.Omega.{arith}
-use Rattle.frames.specs.Edition.{mostFeet}
+use Rattle.frames.specs.Steps.Sizes.{countyFeet}
+use Rattle.frames.proofs.EditionLaws.{feet-few}
 use Rattle.network.specs.Network.{editionOf, segmentsOf, isNetwork}
 use Rattle.network.proofs.NetworkLaws.{passed}
 use Rattle.streets.specs.Runs.{feetOf}
 use Rattle.streets.specs.Steps.Places.{RunOf}
 use Rattle.streets.specs.Steps.Leaving.{Leaves, Entry}
 use Rattle.search_labels.specs.Steps.Search.{Fair}
-use Rattle.search_relaxing.specs.Steps.Town.{mostRunFeet, mostRuns, Town}
+use Rattle.search_relaxing.specs.Steps.Counted.{mostRuns, Counted}
 use Rattle.search_relaxing.specs.Steps.Unfound.{RunBehind}
 use Rattle.streets.proofs.LeavingLaws.{run-feet}
 
--- no edition has longer runs
-feet-few : (e : ℕ) → mostFeet e ≤ mostRunFeet
-unfolding mostFeet
-feet-few e = omega arith
-
-pub town : {net : List ℕ} {s : ℕ} → isNetwork net ≡ true → s ≡ segmentsOf net → Town net (2 * s)
-town is e = record { network = is; count = ap (λ (k : ℕ). 2 * k) e }
+pub counted : {net : List ℕ} {s : ℕ} → isNetwork net ≡ true → s ≡ segmentsOf net → Counted net (2 * s)
+counted is e = record { network = is; count = ap (λ (k : ℕ). 2 * k) e }
 
 -- what stands behind an entry that is not 0
 pub record Behind (net : List ℕ) (n entry : ℕ) : Type 0 where
   pub inside : entry - 1 < n
   pub run : RunOf net (entry - 1)
-  pub feet : feetOf net (entry - 1) ≤ mostRunFeet
+  pub feet : feetOf net (entry - 1) ≤ countyFeet
 
-module _ {net : List ℕ} {n : ℕ} (T : Town net n) where
+module _ {net : List ℕ} {n : ℕ} (T : Counted net n) where
   pub run-of : {r : ℕ} → r < n → RunOf net r
   run-of l = record { network = T .network; inside = omega (arith, T .count) }
 
   pub few-runs : n ≤ mostRuns
   few-runs = omega (arith, T .count, passed net (T .network) .limits .few-segments)
 
-  pub fair : Fair n (feetOf net) mostRunFeet
+  pub fair : Fair n (feetOf net) countyFeet
   fair =
       record {
         small = omega (arith, few-runs);
