@@ -10,14 +10,16 @@ RUST := --offline --release --manifest-path rust/Cargo.toml
 TIMED := --offline --profile timed --manifest-path rust/Cargo.toml
 CFLAGS := -std=c11 -O2 -Wall -Wextra -Wpedantic -Werror
 
-.PHONY: help lib rust compare bench instructions stack examples
+.PHONY: help lib rust compare county bench instructions against stack examples
 
 help:
 	@echo "make lib           prove the calls and write the archive for C and Rust"
 	@echo "make rust          the archive, then build and test everything under rust/"
 	@echo "make compare       archive and twin side by side for MINUTES=$(MINUTES), SEED=$(SEED)"
+	@echo "make county        the same with a town of 10 nodes at most, so that a county's memory serves: proved, then compared"
 	@echo "make bench         times of archive and twin, as Markdown tables"
 	@echo "make instructions  instructions for a call of archive and twin (needs valgrind)"
+	@echo "make against       OLD=an earlier archive and this one, instructions and times of each call (needs valgrind)"
 	@echo "make stack         bytes of stack that each call takes"
 	@echo "make examples      build and run the short C and Rust programs, compare what they print"
 
@@ -37,11 +39,18 @@ rust: lib
 compare: $(LIB)
 	$(CARGO) run $(RUST) --package splicereel-compare -- $(MINUTES) $(SEED)
 
+county:
+	tests/county $(MINUTES) $(SEED)
+
 bench: $(LIB)
 	$(CARGO) run $(TIMED) --package splicereel-bench
 
 instructions: $(LIB)
 	rust/bench/instructions
+
+# Without OLD nothing is proved first: what is missing is said at once.
+against: $(if $(OLD),$(LIB))
+	rust/bench/against "$(OLD)"
 
 # Asked about the largest town of tests/.
 stack: $(LIB)

@@ -8,8 +8,11 @@
  * Every call, on every input that keeps the rules below, ends with an answer
  * or a refusal. It returns 0 where it answers and the refusal's number
  * otherwise; what else it has to tell stands in `told`. The calls keep no
- * pointer and have no state of their own: they may run in many threads at
- * once. A call takes less than 64 KiB of stack and allocates nothing.
+ * pointer, allocate nothing and have no state of their own: they may run in
+ * many threads at once. A call about a town (at most SPLICEREEL_TOWN_NODES
+ * nodes and SPLICEREEL_TOWN_SEGMENTS segments) takes less than 64 KiB of stack,
+ * and one about a larger network less than 448 KiB; every network of edition 01
+ * is a town.
  *
  * Rules for what is lent, the only ones:
  *
@@ -38,16 +41,25 @@
 extern "C" {
 #endif
 
-/* What a network of edition 01 has at most. */
 enum {
+    /* Every network: none that Read can keep has more. Today that is the
+       largest of edition 01. */
     SPLICEREEL_MAX_NODES = 1000,
     SPLICEREEL_MAX_SEGMENTS = 1000,
-    /* Kept bytes, 7 and 30 for each segment: in an output so long, every
-       network fits. */
-    SPLICEREEL_MAX_NETWORK = 30007,
+    /* Kept bytes, 7 and 30 for each segment: an output so long serves every
+       network. */
+    SPLICEREEL_MAX_NETWORK = 7 + 30 * SPLICEREEL_MAX_SEGMENTS,
     /* Runs, two for each segment: scratch and buffer so long serve every
        network. */
-    SPLICEREEL_MAX_RUNS = 2000,
+    SPLICEREEL_MAX_RUNS = 2 * SPLICEREEL_MAX_SEGMENTS,
+
+    /* A town: a network with at most so many. A call about one takes less
+       stack. */
+    SPLICEREEL_TOWN_NODES = 1000,
+    SPLICEREEL_TOWN_SEGMENTS = 1000,
+    /* Scratch and buffer so long serve every town. */
+    SPLICEREEL_TOWN_RUNS = 2 * SPLICEREEL_TOWN_SEGMENTS,
+
     /* Elements of `told`. */
     SPLICEREEL_TOLD = 8
 };
@@ -100,9 +112,9 @@ enum splicereel_number {
  *
  * Accepted: returns 0, told[0] is the number of bytes written from the start
  * of the output; later bytes stay.
- * Refused: returns 1 to 7, told[0] is the line, counted from 1 (at most 1002:
- * a line after the last segment's is refused itself); the output stays as it
- * was.
+ * Refused: returns 1 to 7, told[0] is the line, counted from 1 (at most
+ * SPLICEREEL_MAX_SEGMENTS + 2, the line after the last segment's, which is
+ * refused itself); the output stays as it was.
  * told[1] to told[7] stay.
  */
 uint32_t splicereel_read(

@@ -1,7 +1,7 @@
 /*
  * Stack that each call takes: it runs on a painted stack of its own, and the
- * deepest byte that lost its paint tells. `stack TEXT` asks about the town in
- * the file, from its first node to its last.
+ * deepest byte that lost its paint tells. `stack TEXT` asks about the network in
+ * the file, from its first node to its last, and says how large it is.
  */
 #include "splicereel.h"
 
@@ -9,12 +9,18 @@
 #include <string.h>
 #include <ucontext.h>
 
-enum { STACK = 1 << 20, TEXT = 65536, PAINT = 0xA5 };
+enum {
+    STACK = 1 << 20,
+    PAINT = 0xA5,
+    /* The longest text that Read accepts, two digits for a byte and an 0A for a line, and one byte
+       more, so that a longer file is refused. */
+    TEXT = 2 * SPLICEREEL_MAX_NETWORK + (SPLICEREEL_MAX_SEGMENTS + 1) + 1
+};
 
 static uint8_t stack[STACK], text[TEXT], net[SPLICEREEL_MAX_NETWORK];
 static uint32_t best[SPLICEREEL_MAX_RUNS], previous[SPLICEREEL_MAX_RUNS], told[SPLICEREEL_TOLD];
 static uint16_t buffer[SPLICEREEL_MAX_RUNS];
-static size_t text_length, net_length, last_node;
+static size_t text_length, net_length, nodes, segments;
 static ucontext_t here, there;
 
 static void nothing(void) {}
@@ -22,11 +28,11 @@ static void read(void) { splicereel_read(text, text_length, net, sizeof net, tol
 static void judge_segment(void) { splicereel_judge_segment(net, net_length, 0, told); }
 static void judge_movement(void) { splicereel_judge_movement(net, net_length, 0, 0, told); }
 static void route(void) {
-    splicereel_route(net, net_length, 0, last_node, 4, best, SPLICEREEL_MAX_RUNS, previous,
+    splicereel_route(net, net_length, 0, nodes - 1, 4, best, SPLICEREEL_MAX_RUNS, previous,
                      SPLICEREEL_MAX_RUNS, buffer, SPLICEREEL_MAX_RUNS, 0, told);
 }
 static void least_stress(void) {
-    splicereel_least_stress(net, net_length, 0, last_node, best, SPLICEREEL_MAX_RUNS, previous,
+    splicereel_least_stress(net, net_length, 0, nodes - 1, best, SPLICEREEL_MAX_RUNS, previous,
                             SPLICEREEL_MAX_RUNS, buffer, SPLICEREEL_MAX_RUNS, 0, told);
 }
 
@@ -57,7 +63,11 @@ int main(int count, char **arguments) {
         return 1;
     }
     net_length = told[0];
-    last_node = ((size_t)net[2] << 8 | net[3]) - 1;
+    nodes = (size_t)net[2] << 8 | net[3];
+    segments = (size_t)net[4] << 8 | net[5];
+    int town = nodes <= SPLICEREEL_TOWN_NODES && segments <= SPLICEREEL_TOWN_SEGMENTS;
+    printf("%s of %zu nodes and %zu segments\n", town ? "Town" : "Network larger than a town", nodes,
+           segments);
     size_t frame = used_by(nothing);
     printf("Read %zu\n", used_by(read) - frame);
     printf("Judge a segment %zu\n", used_by(judge_segment) - frame);

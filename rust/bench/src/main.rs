@@ -5,11 +5,11 @@ use bench::clock::microseconds;
 use bench::{Call, Side, Subject, QUESTIONS};
 use std::fs;
 use twin::gen::{self, Shape};
-use twin::Town;
+use twin::{Town, TOWN_SEGMENTS};
 
 /// Sizes of the first table, in segments; growth is from the first to the
 /// last.
-const SIZES: [usize; 4] = [125, 250, 500, 1_000];
+const SIZES: [usize; 4] = [125, 250, 500, TOWN_SEGMENTS];
 /// Samples of each side; odd, so that one is the median.
 const SAMPLES: usize = 15;
 /// A sample takes at least so many microseconds.
@@ -156,7 +156,7 @@ fn by_size() {
     println!(".\n");
 }
 
-/// The table over shapes, at the most segments each can have.
+/// The table over shapes, at the most segments that a town of each can have.
 fn by_shape() {
     const CALLS: [Call; 6] = [
         Call::Read,
@@ -170,11 +170,11 @@ fn by_shape() {
     CALLS.iter().for_each(|call| print!(" {} |", call.title()));
     println!("\n|---|---|{}", "---|".repeat(CALLS.len()));
     for shape in Shape::ALL {
-        let town = gen::town(shape, SEEDS.start, 1_000);
+        let town = gen::town(shape, SEEDS.start, TOWN_SEGMENTS);
         if town.segments.len() < 100 {
             continue; // one node, or none with streets: nothing to time
         }
-        let mut towns = [subjects(|seed| gen::town(shape, seed, 1_000))];
+        let mut towns = [subjects(|seed| gen::town(shape, seed, TOWN_SEGMENTS))];
         print!(
             "| {} | {}, {} |",
             shape.name(),
@@ -216,6 +216,6 @@ fn main() {
         SIZES[SIZES.len() - 1]
     );
     by_size();
-    println!("Other shapes, at 1,000 segments or as many as they have.\n");
+    println!("Other shapes, at {TOWN_SEGMENTS} segments or as many as they have.\n");
     by_shape();
 }

@@ -5,6 +5,7 @@ use crate::question::Question;
 use crate::reached::ROOMS;
 use crate::{Comparer, Mismatch};
 use splicereel::ffi::Told;
+use splicereel::{MAX_NETWORK, TOWN_SEGMENTS};
 use twin::gen::{self, damage, damage_kept, Rng, Shape, Spot};
 use twin::lend::Lengths;
 use twin::oracle::Net;
@@ -37,7 +38,7 @@ pub fn play(comparer: &mut Comparer<'_>, rng: &mut Rng) -> Done {
     let segments = match rng.below(100) {
         0..=79 => rng.range(0, 14),
         80..=97 => rng.range(15, 120),
-        _ => rng.range(900, 1_000),
+        _ => rng.range(TOWN_SEGMENTS - 100, TOWN_SEGMENTS),
     };
     let seed = rng.bits();
     let town = gen::town(shape, seed, segments);
@@ -84,7 +85,7 @@ fn noise(comparer: &mut Comparer<'_>, rng: &mut Rng, subject: &Subject) -> Done 
         for _ in 0..rng.range(1, 3) {
             gen::change(rng, &mut text);
         }
-        let room = rng.pick(&[subject.bytes.len(), 30_007, 67, 7]);
+        let room = rng.pick(&[subject.bytes.len(), MAX_NETWORK, 67, 7]);
         comparer.compare(rng, None, &text, Question::Read { room })?;
     }
     for _ in 0..6 {

@@ -50,14 +50,27 @@ pub use lending::{judge_movement, judge_segment, least_stress, read, route};
 pub use network::{Network, Route};
 pub use refusal::{ReadRefusal, Refusal};
 
-/// The most nodes that a network of edition 01 has.
+/// The most nodes of every network that [`read`] can keep; today that is the
+/// largest of edition 01.
 pub const MAX_NODES: usize = 1_000;
-/// The most segments that a network of edition 01 has.
+/// The most segments of every network that [`read`] can keep.
 pub const MAX_SEGMENTS: usize = 1_000;
-/// The most runs that a network of edition 01 has: two for each segment.
+/// The most runs of every network: two for each segment.
 ///
-/// So long are the scratch slices and the buffer that serve every network.
+/// Scratch slices and a buffer so long serve every network.
 pub const MAX_RUNS: usize = 2 * MAX_SEGMENTS;
-/// The bytes of the largest network of edition 01: in an output so long, every
-/// one fits.
+/// The bytes of the largest network, 7 and 30 for each segment: an output so
+/// long serves every network.
 pub const MAX_NETWORK: usize = 7 + 30 * MAX_SEGMENTS;
+
+/// The most nodes of a town; every network of edition 01 is a town.
+///
+/// A call about a town takes less than 64 KiB of stack, and one about a larger
+/// network less than 448 KiB.
+pub const TOWN_NODES: usize = 1_000;
+/// The most segments of a town.
+pub const TOWN_SEGMENTS: usize = 1_000;
+/// The most runs of a town: two for each segment.
+///
+/// Scratch slices and a buffer so long serve every town.
+pub const TOWN_RUNS: usize = 2 * TOWN_SEGMENTS;

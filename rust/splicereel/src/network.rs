@@ -19,7 +19,7 @@ use crate::refusal::{ReadRefusal, Refusal};
 /// ```
 #[derive(Clone, Debug, PartialEq, Eq, Hash)]
 pub struct Network {
-    /// The kept bytes: a head of 7 and 30 for each segment.
+    /// The kept bytes: the head's and each segment's.
     bytes: Vec<u8>,
 }
 

@@ -2,8 +2,8 @@
 //! forms alike on random towns.
 
 use splicereel::{
-    Direction, Found, Lent, Level, MAX_NETWORK, Network, ReadRefusal, Refusal, Run, judge_movement,
-    judge_segment, least_stress, read, route,
+    Direction, Found, Lent, Level, MAX_NETWORK, Network, ReadRefusal, Refusal, Run, TOWN_RUNS,
+    TOWN_SEGMENTS, judge_movement, judge_segment, least_stress, read, route,
 };
 use std::collections::HashSet;
 use std::error::Error;
@@ -133,19 +133,20 @@ fn refusals_have_numbers_and_words() {
     assert!(refused.source().is_some());
 }
 
-/// A call takes less than 64 KiB of stack, as the header says; the thread's
-/// own needs get 16 more.
+/// A call about a town takes less than 64 KiB of stack, as the header says; the
+/// thread's own needs get 16 more.
 #[test]
 fn calls_fit_a_small_stack() {
-    let town = towns::town(Shape::Grid, 11, 1_000);
-    let (text, net) = (town.text(), town.bytes());
+    let town = towns::town(Shape::Grid, 11, TOWN_SEGMENTS);
+    let (text, net, last) = (town.text(), town.bytes(), usize::from(town.nodes) - 1);
     let calls = move || {
         let mut output = vec![0; MAX_NETWORK];
-        let mut room = Room::exact(2_000);
+        let mut room = Room::exact(TOWN_RUNS);
         let read = read(&text, &mut output).is_ok();
-        let judged = judge_segment(&net, 999).is_ok() && judge_movement(&net, 0, 0).is_err();
-        let routed = route(&net, 0, 505, 4, lent(&mut room)).is_ok();
-        let least = least_stress(&net, 0, 505, lent(&mut room)).is_ok();
+        let judged =
+            judge_segment(&net, TOWN_SEGMENTS - 1).is_ok() && judge_movement(&net, 0, 0).is_err();
+        let routed = route(&net, 0, last, 4, lent(&mut room)).is_ok();
+        let least = least_stress(&net, 0, last, lent(&mut room)).is_ok();
         read && judged && routed && least
     };
     let small = std::thread::Builder::new().stack_size(80 * 1024);

@@ -6,8 +6,12 @@ mod damage;
 mod fields;
 mod plan;
 
+use crate::edition::Edition;
 pub use damage::{change, damage, damage_kept, seal, Damage, Spot};
 pub use plan::{mixed_grid, town};
+
+/// The longest segment of a town, in feet.
+const MOST_FEET: u16 = Edition::One.most_feet() as u16;
 
 /// The splitmix generator.
 #[derive(Clone, Debug)]
@@ -59,7 +63,7 @@ impl Rng {
 /// The street plan of a random town.
 #[derive(Clone, Copy, Debug, PartialEq, Eq)]
 pub enum Shape {
-    /// A tree of at most 1,000 nodes.
+    /// A tree.
     Tree,
     /// A rectangular grid, the segments left over laid across blocks.
     Grid,
@@ -83,7 +87,7 @@ pub enum Shape {
     Single,
     /// Nodes without segments.
     Empty,
-    /// 1,000 nodes, most of them far from the streets.
+    /// As many nodes as a town may have, most of them far from the streets.
     Sparse,
 }
 

@@ -1,10 +1,14 @@
 //! Kept bytes under test 8, their corner index, and the two judgements.
 
-use crate::frame::{checks, End, Head, Segment, HEAD, HEAD_KIND, MAX_NODES, SEGMENT, SEGMENT_KIND};
+use crate::edition::{MAX_NODES, MAX_RUNS};
+use crate::frame::{checks, End, Head, Segment, HEAD, HEAD_KIND, SEGMENT, SEGMENT_KIND};
 use crate::level::{self, Arrival};
 
 /// Marks a leg that no segment end uses.
 pub(crate) const UNUSED: u16 = u16::MAX;
+
+// Every run fits 16 bits and is another number.
+const _: () = assert!(MAX_RUNS <= UNUSED as usize);
 
 /// For each node and leg the run that leaves there, or [`UNUSED`].
 ///
@@ -22,7 +26,7 @@ impl Corners {
     fn claim(&mut self, end: End, run: usize) -> bool {
         let place = &mut self.0[end.node][end.leg];
         let free = *place == UNUSED;
-        *place = run as u16; // a run is below 2,000
+        *place = run as u16; // every run fits
         free
     }
 }
@@ -51,7 +55,7 @@ impl<'n, 'a> Network<'n, 'a> {
             let segment = Segment(frame);
             let good = frame[0] == SEGMENT_KIND
                 && checks(frame)
-                && segment.in_order(head.nodes)
+                && segment.in_order(head)
                 && corners.claim(segment.a(), 2 * s)
                 && corners.claim(segment.b(), 2 * s + 1);
             if !good {

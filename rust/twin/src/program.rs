@@ -4,6 +4,9 @@
 use std::io::{Read, Write};
 use std::process::ExitCode;
 
+/// At most so many bytes of standard input are judged by program `levels`.
+pub const MOST_INPUT: usize = 65_536;
+
 /// The words of the command line, without the program's name.
 pub fn words() -> Vec<String> {
     std::env::args().skip(1).collect()

@@ -1,8 +1,7 @@
 //! Read: a network text into kept bytes.
 
-use crate::frame::{
-    checks, End, Head, Segment, HEAD, HEAD_KIND, MAX_NODES, MAX_SEGMENTS, SEGMENT, SEGMENT_KIND,
-};
+use crate::edition::{MAX_NODES, MAX_SEGMENTS};
+use crate::frame::{checks, End, Head, Segment, HEAD, HEAD_KIND, SEGMENT, SEGMENT_KIND};
 
 const NEWLINE: u8 = 0x0A;
 
@@ -25,7 +24,7 @@ pub fn read(text: &[u8], output: &mut [u8]) -> Result<usize, (u8, usize)> {
     // Decoded here first, for a refusal may still come.
     let mut kept = [[0; SEGMENT]; MAX_SEGMENTS];
     let kept = &mut kept[..head.segments];
-    segments(rest, head.nodes, kept)?;
+    segments(rest, head, kept)?;
 
     let (first, others) = output[..size].split_at_mut(HEAD);
     first.copy_from_slice(&frame);
@@ -35,11 +34,7 @@ pub fn read(text: &[u8], output: &mut [u8]) -> Result<usize, (u8, usize)> {
 
 /// Reads the lines after the head, a segment for each place.
 #[inline]
-fn segments(
-    mut rest: &[u8],
-    nodes: usize,
-    places: &mut [[u8; SEGMENT]],
-) -> Result<(), (u8, usize)> {
+fn segments(mut rest: &[u8], head: Head, places: &mut [[u8; SEGMENT]]) -> Result<(), (u8, usize)> {
     let mut taken = [0u8; MAX_NODES];
     let mut claim = |end: End| {
         let legs = &mut taken[end.node];
@@ -55,7 +50,7 @@ fn segments(
             first_frame::<SEGMENT>(rest, SEGMENT_KIND).map_err(|number| (number, line))?;
         let place = places.next().ok_or((5, line))?;
         let fields = Segment(&segment);
-        if !fields.in_order(nodes) {
+        if !fields.in_order(head) {
             return Err((4, line));
         }
         if !(claim(fields.a()) && claim(fields.b())) {

@@ -3,7 +3,8 @@
 //! Both search over runs, not nodes: what a movement costs depends on the leg
 //! by which the node was reached, and a node may come twice.
 
-use crate::frame::{End, MAX_NODES};
+use crate::edition::{MAX_FEET, MAX_NODES, MAX_RUNS};
+use crate::frame::End;
 use crate::level::Arrival;
 use crate::network::{Corners, Network, UNUSED};
 use std::cmp::Reverse;
@@ -32,6 +33,9 @@ const FAR: u32 = u32::MAX;
 const BARRED: u32 = 0;
 /// Previous run of a route's first.
 const START: u32 = u32::MAX;
+
+// A run comes once in a route at most, so that every length is below FAR.
+const _: () = assert!(MAX_RUNS as u64 * (MAX_FEET as u64) < FAR as u64);
 
 /// A shortest route from `from` to `to` within `tolerance`.
 ///
@@ -289,7 +293,7 @@ fn write(
     let mut level = 1;
     let mut after = None;
     for (place, run) in tail[..count].iter_mut().rev().zip(back()) {
-        *place = run as u16; // a run is below 2,000
+        *place = run as u16; // every run fits
         level = level.max(town.level(run));
         if let Some(next) = after.replace(run) {
             level = level.max(town.movement(run, next));
@@ -324,7 +328,7 @@ impl Levels<'_> {
             return None;
         }
         self.least[run] = u32::from(level);
-        self.waiting[usize::from(level) - 1].push(run as u16); // below 2,000
+        self.waiting[usize::from(level) - 1].push(run as u16); // every run fits
         Some(level)
     }
 }

@@ -2,6 +2,9 @@
 //!
 //! Nothing is tested here: a builder may also make bytes that are no network.
 
+use crate::edition::Edition;
+use crate::frame::{HEAD, HEAD_KIND, SEGMENT, SEGMENT_KIND};
+
 /// A segment's end: a node and one of its legs.
 #[derive(Clone, Copy, Debug, Default, PartialEq, Eq)]
 pub struct End {
@@ -143,10 +146,10 @@ impl Segment {
         Segment { at_a, ..self }
     }
 
-    /// The frame, 30 bytes, check computed.
+    /// The frame, check computed.
     pub fn frame(&self) -> Vec<u8> {
-        let mut out = Vec::with_capacity(30);
-        out.push(0x02);
+        let mut out = Vec::with_capacity(SEGMENT);
+        out.push(SEGMENT_KIND);
         for e in [self.a, self.b] {
             out.extend(e.node.to_be_bytes());
             out.push(e.leg);
@@ -186,7 +189,7 @@ impl Town {
         self
     }
 
-    /// The head frame, 7 bytes, check computed.
+    /// The head frame, check computed.
     pub fn head(&self) -> Vec<u8> {
         head(
             self.nodes,
@@ -209,9 +212,9 @@ impl Town {
     }
 }
 
-/// A head frame with these numbers, check computed.
+/// A head frame of edition 01 with these numbers, check computed.
 pub fn head(nodes: u16, segments: u16) -> Vec<u8> {
-    let mut out = vec![0x01, 0x01];
+    let mut out = vec![HEAD_KIND, Edition::One.byte()];
     out.extend(nodes.to_be_bytes());
     out.extend(segments.to_be_bytes());
     out.push(check(&out));
@@ -234,16 +237,17 @@ pub fn line(frame: &[u8]) -> Vec<u8> {
     out
 }
 
-/// The text of a kept network: 7 bytes on the first line, 30 on each other.
+/// The text of a kept network: the head on the first line, a segment frame on
+/// each other.
 ///
 /// Bytes that are no network are cut in the same places.
 pub fn write_text(net: &[u8]) -> Vec<u8> {
-    let (head, body) = net.split_at(net.len().min(7));
-    let mut out = Vec::with_capacity(net.len() * 2 + net.len() / 30 + 2);
+    let (head, body) = net.split_at(net.len().min(HEAD));
+    let mut out = Vec::with_capacity(net.len() * 2 + net.len() / SEGMENT + 2);
     if !head.is_empty() {
         out.extend(line(head));
     }
-    for frame in body.chunks(30) {
+    for frame in body.chunks(SEGMENT) {
         out.extend(line(frame));
     }
     out

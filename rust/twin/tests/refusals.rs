@@ -4,7 +4,7 @@ use twin::gen::{self, damage, damage_kept, Rng, Shape, Spot};
 use twin::lend::{Guarded, Lengths, Lent};
 use twin::oracle::{self, Net};
 use twin::town::{block_town, check, end, head, line, Segment, Town};
-use twin::{is_network, judge_movement, judge_segment, read, Found};
+use twin::{is_network, judge_movement, judge_segment, read, Found, MAX_NETWORK};
 
 /// Reads twice, here and with the oracle, and tests what the output keeps.
 fn answer(text: &[u8], room: usize) -> Result<usize, (u8, usize)> {
@@ -30,7 +30,7 @@ fn answer(text: &[u8], room: usize) -> Result<usize, (u8, usize)> {
 }
 
 fn full(text: &[u8]) -> Result<usize, (u8, usize)> {
-    answer(text, 30_007)
+    answer(text, MAX_NETWORK)
 }
 
 fn sealed(mut body: Vec<u8>) -> Vec<u8> {
@@ -278,7 +278,7 @@ fn changed_texts() {
         for _ in 0..rng.range(1, 3) {
             gen::change(&mut rng, &mut text);
         }
-        let room = rng.pick(&[30_007, 30_007, 7, 67, 100, 0]);
+        let room = rng.pick(&[MAX_NETWORK, MAX_NETWORK, 7, 67, 100, 0]);
         let _ = answer(&text, room);
     }
 }

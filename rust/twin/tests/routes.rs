@@ -4,7 +4,7 @@ use twin::gen::{self, Rng, Shape};
 use twin::lend::{Lengths, Lent};
 use twin::oracle::Net;
 use twin::town::{block_town, end, Approach, Segment, Town};
-use twin::{judge_movement, judge_segment, segment_levels, Found};
+use twin::{judge_movement, judge_segment, segment_levels, Found, TOWN_NODES, TOWN_SEGMENTS};
 
 /// A town under test: its bytes, what the oracle makes of them, and all of its
 /// movements.
@@ -145,7 +145,8 @@ fn middle_towns() {
 fn full_towns() {
     let mut rng = Rng::new(3);
     for (i, shape) in Shape::ALL.into_iter().enumerate() {
-        let subject = Subject::new(gen::town(shape, 90_000 + i as u64, 1_000).bytes());
+        let town = gen::town(shape, 90_000 + i as u64, TOWN_SEGMENTS);
+        let subject = Subject::new(town.bytes());
         let nodes = subject.oracle.nodes();
         let goals: Vec<usize> = (0..20).map(|_| rng.below(nodes)).collect();
         let from = rng.below(nodes);
@@ -188,29 +189,31 @@ fn judgements() {
 #[test]
 fn shapes() {
     for shape in Shape::ALL {
-        for segments in [0, 1, 2, 3, 4, 10, 100, 999, 1_000, 5_000] {
+        let most = TOWN_SEGMENTS;
+        for segments in [0, 1, 2, 3, 4, 10, 100, most - 1, most, 5 * most] {
             let town = gen::town(shape, 7, segments);
             assert!(twin::is_network(&town.bytes()), "{shape:?} {segments}");
             assert_eq!(Shape::from_name(shape.name()), Some(shape));
             let made = town.segments.len();
-            assert!(made <= segments.min(1_000));
+            assert!(made <= segments.min(most));
             match shape {
                 Shape::Empty => assert_eq!(made, 0),
                 Shape::Single => assert_eq!((town.nodes, made), (1, segments.min(4))),
-                Shape::Tree => assert_eq!(made, segments.min(999)),
+                Shape::Tree => assert_eq!(made, segments.min(TOWN_NODES - 1)),
                 Shape::Star if segments % 4 == 0 && segments > 0 => {
-                    assert_eq!(made, segments.min(1_000));
+                    assert_eq!(made, segments.min(most));
                     assert_eq!(2 * made, 8 * usize::from(town.nodes), "all eight legs used");
                 }
-                Shape::Grid | Shape::Ring | Shape::Wild => assert_eq!(made, segments.min(1_000)),
+                Shape::Grid | Shape::Ring | Shape::Wild => assert_eq!(made, segments.min(most)),
                 _ => assert!(
-                    segments < 10 || made * 10 >= segments.min(1_000) * 8,
+                    segments < 10 || made * 10 >= segments.min(most) * 8,
                     "{shape:?} {made}"
                 ),
             }
         }
     }
-    assert_eq!(gen::town(Shape::Grid, 1, 1_000).text().len(), 61_015);
+    let largest = gen::town(Shape::Grid, 1, TOWN_SEGMENTS);
+    assert_eq!(largest.text().len(), 61_015);
     assert_ne!(gen::town(Shape::Grid, 1, 50), gen::town(Shape::Grid, 2, 50));
 }
 
@@ -327,17 +330,18 @@ fn label_for_each_run() {
 /// Greatest length: every run once, 52,800 feet each.
 #[test]
 fn longest_route() {
-    let mut town = Town::new(1_000);
-    for node in 0..999 {
+    let mut town = Town::new(TOWN_NODES as u16);
+    let last = town.nodes - 1;
+    for node in 0..last {
         town.segments
             .push(Segment::path(end(node, 0), end(node + 1, 4), 52_800));
     }
-    let (found, list) = go(&town.bytes(), 0, 999, 1).unwrap();
+    let (found, list) = go(&town.bytes(), 0, last.into(), 1).unwrap();
     assert_eq!(
         found,
         Found {
-            count: 999,
-            length: 999 * 52_800,
+            count: last.into(),
+            length: u32::from(last) * 52_800,
             level: 1
         }
     );

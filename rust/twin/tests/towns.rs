@@ -51,7 +51,7 @@ fn each_table_gives_its_text() {
 
 /// Feet and level of the route, for `least` too.
 fn answer(net: &[u8], from: usize, to: usize, tolerance: &str) -> Option<(u32, u8)> {
-    let runs = 2 * twin::MAX_SEGMENTS;
+    let runs = twin::MAX_RUNS;
     let (mut best, mut previous, mut buffer) = (vec![0; runs], vec![0; runs], vec![0; runs]);
     let found = match tolerance.parse() {
         Ok(t) => route(net, from, to, t, &mut best, &mut previous, &mut buffer, 0),

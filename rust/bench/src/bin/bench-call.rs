@@ -1,9 +1,11 @@
 //! `bench-call archive|twin CALL SHAPE SEGMENTS TIMES` makes one call so many
-//! times and prints nothing: for counting instructions.
+//! times and prints the nanoseconds of processor time that they took together:
+//! for counting instructions, and for comparing two archives.
 //!
 //! CALL is one of read segment movement route1 route2 route3 route4 least;
 //! SHAPE is `mixed`, the benchmark's grid, or a shape of town-gen.
 
+use bench::clock::microseconds;
 use bench::{Call, Side, Subject};
 use std::process::ExitCode;
 use twin::gen::{self, Shape};
@@ -35,8 +37,10 @@ fn main() -> ExitCode {
         return program::usage("bench-call archive|twin CALL SHAPE SEGMENTS TIMES");
     };
     let mut subject = Subject::new(&town, SEED);
+    let start = microseconds();
     for question in 0..times {
         subject.ask(side, call, question);
     }
+    println!("{}", ((microseconds() - start) * 1e3) as u64);
     ExitCode::SUCCESS
 }

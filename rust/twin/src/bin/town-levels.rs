@@ -4,11 +4,9 @@ use std::fmt::Write as _;
 use std::process::ExitCode;
 use twin::program;
 
-/// At most so many bytes of standard input are judged.
-const MOST: u64 = 65_536;
-
 fn main() -> ExitCode {
-    program::answer(program::input(MOST).map(|text| answer(&text).into_bytes()))
+    let text = program::input(program::MOST_INPUT as u64);
+    program::answer(text.map(|text| answer(&text).into_bytes()))
 }
 
 fn answer(text: &[u8]) -> String {

@@ -52,7 +52,7 @@ fn answer(text: &[u8], question: &Question) -> String {
         to,
         tolerance,
     } = question;
-    let mut lent = Lent::exact(2 * twin::MAX_SEGMENTS);
+    let mut lent = Lent::exact(twin::MAX_RUNS);
     let found = match tolerance {
         Some(tolerance) => lent
             .route(net, from, to, tolerance)

@@ -10,9 +10,9 @@ use std::process::ExitCode;
 use twin::gen::{self, damage, Rng, Shape, Spot};
 use twin::lend::Lent;
 use twin::oracle::{self, Net};
-use twin::program;
+use twin::program::{self, MOST_INPUT};
 use twin::town::{block_town, check, end, head, line, Approach, Segment, Town, CENTRELINE};
-use twin::Found;
+use twin::{Found, TOWN_NODES, TOWN_SEGMENTS};
 
 fn main() -> ExitCode {
     let [directory] = &program::words()[..] else {
@@ -33,7 +33,7 @@ fn main() -> ExitCode {
 /// What the calls print for program levels.
 fn through_the_calls(input: &[u8]) -> String {
     let mut output = [0; twin::MAX_NETWORK];
-    match twin::read(&input[..input.len().min(65_536)], &mut output) {
+    match twin::read(&input[..input.len().min(MOST_INPUT)], &mut output) {
         Err((number, line)) => format!("refused {number} {line}\n"),
         Ok(written) => (0..)
             .map_while(|s| Some((s, twin::judge_segment(&output[..written], s).ok()?)))
@@ -84,7 +84,7 @@ fn ends_of_texts(out: &Levels<'_>, printed: &[u8]) -> io::Result<()> {
     let and = |more: &[u8]| [printed, more].concat();
     let empty = Town::new(1).text();
     out.put("s0-n1", &empty)?;
-    out.put("s0-n1000", &Town::new(1_000).text())?;
+    out.put("s0-n1000", &nodes_alone().text())?;
     for (name, input, number, line) in [
         ("empty", Vec::new(), 3, 1),
         ("only-0a", b"\n".to_vec(), 1, 1),
@@ -101,6 +101,11 @@ fn ends_of_texts(out: &Levels<'_>, printed: &[u8]) -> io::Result<()> {
         out.refused(name, &input, number, line)?;
     }
     Ok(())
+}
+
+/// As many nodes as a town may have, and no segment.
+fn nodes_alone() -> Town {
+    Town::new(TOWN_NODES as u16)
 }
 
 /// Each line has the lower-ranked faults as well.
@@ -148,52 +153,50 @@ fn each_number(out: &Levels<'_>) -> io::Result<()> {
     Ok(())
 }
 
-/// Towns of every shape, and of 1,000 segments; gives the text of one of those.
+/// Towns of every shape, and of as many segments as a town may have; gives the
+/// text of one of those.
 fn whole_towns(out: &Levels<'_>) -> io::Result<Vec<u8>> {
     for shape in Shape::ALL {
         let name = format!("town-{}", shape.name());
         out.put(&name, &gen::town(shape, 77, 60).text())?;
     }
-    let thousand = gen::town(Shape::Wild, 1, 1_000).text();
+    let thousand = gen::town(Shape::Wild, 1, TOWN_SEGMENTS).text();
     assert_eq!(thousand.len(), 61_015);
     out.put("thousand", &thousand)?;
-    out.put("thousand-grid", &gen::town(Shape::Grid, 5, 1_000).text())?;
+    let grid = gen::town(Shape::Grid, 5, TOWN_SEGMENTS).text();
+    out.put("thousand-grid", &grid)?;
     let mut damaged = thousand.clone();
     damaged[61_000] ^= 1;
-    out.refused("thousand-last-line-check", &damaged, 2, 1_001)?;
+    out.refused("thousand-last-line-check", &damaged, 2, TOWN_SEGMENTS + 1)?;
     Ok(thousand)
 }
 
-/// Round 65,536 bytes. A line of zeros passes 1 and 2 and fails 3, unless the
-/// cut takes its 0A; then it fails 1.
+/// Round the most bytes that are judged. A line of zeros passes 1 and 2 and
+/// fails 3, unless the cut takes its 0A; then it fails 1.
 fn round_the_limit(out: &Levels<'_>, thousand: &[u8]) -> io::Result<()> {
+    let last = TOWN_SEGMENTS + 1;
     let zeros =
         |before: &[u8], count: usize, after: &[u8]| [before, &vec![b'0'; count], after].concat();
     let exact = zeros(thousand, 4_520, b"\n");
-    assert_eq!(exact.len(), 65_536);
+    assert_eq!(exact.len(), MOST_INPUT);
     let garbage = zeros(&[&exact[..], b"garbage\n0"].concat(), 3_000, b"");
-    let mut fewer = gen::town(Shape::Tree, 1, 999);
-    fewer.segments.truncate(999);
+    let mut fewer = gen::town(Shape::Tree, 1, TOWN_SEGMENTS - 1);
+    fewer.segments.truncate(TOWN_SEGMENTS - 1);
     let fewer = fewer.text();
-    assert_eq!(fewer.len() + 4_582, 65_536);
+    assert_eq!(fewer.len() + 4_582, MOST_INPUT);
     for (name, input, number, line) in [
         (
             "longer-cut-in-line",
             zeros(thousand, 4_522, b"\n"),
             1,
-            1_002,
+            last + 1,
         ),
-        ("longer-garbage-after", garbage, 3, 1_002),
-        (
-            "longer-cut-before-0a",
-            zeros(&fewer, 4_582, b"\n"),
-            1,
-            1_001,
-        ),
-        ("exact-65536-no-0a", zeros(b"", 65_536, b""), 1, 1),
-        ("longer-one-line", zeros(b"", 65_536, b"\n"), 1, 1),
-        ("one-line-65535", zeros(b"", 65_534, b"\n"), 3, 1),
-        ("exact-65536", exact, 3, 1_002),
+        ("longer-garbage-after", garbage, 3, last + 1),
+        ("longer-cut-before-0a", zeros(&fewer, 4_582, b"\n"), 1, last),
+        ("exact-65536-no-0a", zeros(b"", MOST_INPUT, b""), 1, 1),
+        ("longer-one-line", zeros(b"", MOST_INPUT, b"\n"), 1, 1),
+        ("one-line-65535", zeros(b"", MOST_INPUT - 2, b"\n"), 3, 1),
+        ("exact-65536", exact, 3, last + 1),
     ] {
         out.refused(name, &input, number, line)?;
     }
@@ -237,7 +240,7 @@ fn routes(directory: &Path) -> io::Result<()> {
         ("thousand-ties", Shape::Ties, 13),
         ("thousand-wild", Shape::Wild, 14),
     ] {
-        let town = gen::town(shape, seed, 1_000);
+        let town = gen::town(shape, seed, TOWN_SEGMENTS);
         put_town(directory, name, &town, &two_dozen(&town))?;
     }
     for (i, shape) in Shape::ALL.into_iter().enumerate() {
@@ -283,8 +286,9 @@ fn small_towns(directory: &Path) -> io::Result<()> {
         &gen::town(Shape::Single, 4, 4),
         &[(0, 1)],
     )?;
-    let far = [(0, 0), (999, 999), (0, 999), (1_000, 0)];
-    put_town(directory, "no-segments", &Town::new(1_000), &far)
+    let last = TOWN_NODES - 1;
+    let far = [(0, 0), (last, last), (0, last), (TOWN_NODES, 0)];
+    put_town(directory, "no-segments", &nodes_alone(), &far)
 }
 
 /// Round a block of three streets, twice on the way, a mild turn lane in the

@@ -1,6 +1,8 @@
 //! Deliberate damage to texts and to kept bytes.
 
-use super::Rng;
+use super::{Rng, MOST_FEET};
+use crate::edition::{MAX_NETWORK, TOWN_NODES, TOWN_SEGMENTS};
+use crate::frame::{HEAD, MOST_TURN_FEET, SEGMENT, SEGMENT_KIND};
 use crate::town::{check, head, line, write_text};
 
 /// Which line a damage shall hit.
@@ -34,11 +36,16 @@ pub struct Damage {
 
 /// The frames of a network.
 fn frames(net: &[u8]) -> Vec<Vec<u8>> {
-    let (head, body) = net.split_at(net.len().min(7));
+    let (head, body) = net.split_at(net.len().min(HEAD));
     std::iter::once(head)
-        .chain(body.chunks(30))
+        .chain(body.chunks(SEGMENT))
         .map(<[u8]>::to_vec)
         .collect()
+}
+
+/// The length of a line with a frame of so many bytes.
+fn line_length(bytes: usize) -> usize {
+    2 * bytes + 1
 }
 
 /// Sets a frame's last byte so that its check is right.
@@ -92,7 +99,7 @@ pub fn damage(rng: &mut Rng, net: &[u8], number: u8, spot: Spot) -> Option<Damag
     };
     Some(Damage {
         text,
-        output: crate::MAX_NETWORK,
+        output: MAX_NETWORK,
         refusal: (number, line),
         what,
     })
@@ -228,8 +235,8 @@ fn change_byte(rng: &mut Rng, frame: &mut [u8]) {
 
 /// A segment frame of zeros after its kind, not sealed.
 fn blank_segment() -> Vec<u8> {
-    let mut frame = vec![0; 30];
-    frame[0] = 2;
+    let mut frame = vec![0; SEGMENT];
+    frame[0] = SEGMENT_KIND;
     frame
 }
 
@@ -310,7 +317,7 @@ fn too_short(rng: &mut Rng, net: &[u8], spot: Spot) -> Damage {
     let mut what = "output too short";
     if rng.chance(50) {
         // Whatever follows the head comes later.
-        text.truncate(15);
+        text.truncate(line_length(HEAD));
         text.extend(rng.pick(&[&b"\n"[..], b"0", b"02\n", b"garbage", b""]));
         what = "output too short, a fault after the head";
     }
@@ -320,6 +327,12 @@ fn too_short(rng: &mut Rng, net: &[u8], spot: Spot) -> Damage {
         refusal: (7, 1),
         what,
     }
+}
+
+/// A count above the most of a town.
+fn too_many(rng: &mut Rng, most: usize) -> [u8; 2] {
+    let most = most as u16;
+    rng.pick(&[most + 1, most + 256, u16::MAX]).to_be_bytes()
 }
 
 /// Puts a field of a head out of order; the check is left as it was.
@@ -334,11 +347,11 @@ fn spoil_head(rng: &mut Rng, frame: &mut [u8]) -> &'static str {
             "no nodes"
         }
         2 => {
-            frame[2..4].copy_from_slice(&rng.pick(&[1_001u16, 1_256, 65_535]).to_be_bytes());
+            frame[2..4].copy_from_slice(&too_many(rng, TOWN_NODES));
             "too many nodes"
         }
         _ => {
-            frame[4..6].copy_from_slice(&rng.pick(&[1_001u16, 1_256, 65_535]).to_be_bytes());
+            frame[4..6].copy_from_slice(&too_many(rng, TOWN_SEGMENTS));
             "too many segments"
         }
     }
@@ -375,7 +388,7 @@ fn spoil_ends(rng: &mut Rng, frame: &mut [u8], nodes: [u8; 2], field: usize) -> 
             "B leg"
         }
         _ => {
-            frame[7..9].copy_from_slice(&rng.pick(&[0u16, 52_801, 65_535]).to_be_bytes());
+            frame[7..9].copy_from_slice(&rng.pick(&[0, MOST_FEET + 1, u16::MAX]).to_be_bytes());
             "length"
         }
     }
@@ -445,8 +458,8 @@ fn spoil_turn_lane(rng: &mut Rng, approach: &mut [u8], field: usize) -> &'static
         }
         18 => {
             approach[3] = rng.pick(&[1, 2, 3]);
-            let length = rng.pick(&[0u16, 2_001, 2_256, 65_535]).to_be_bytes();
-            approach[4..6].copy_from_slice(&length);
+            let lengths = [0, MOST_TURN_FEET + 1, MOST_TURN_FEET + 256, u16::MAX];
+            approach[4..6].copy_from_slice(&rng.pick(&lengths).to_be_bytes());
             approach[6] = 15;
             "turn-lane length"
         }
@@ -470,7 +483,10 @@ pub fn damage_kept(rng: &mut Rng, net: &[u8]) -> Vec<u8> {
     match rng.below(9) {
         0 => change_byte(rng, &mut bad[place]),
         1 => return net[..rng.below(net.len())].to_vec(),
-        2 => return [net, &vec![0; rng.pick(&[1, 7, 29, 30, 60])]].concat(),
+        2 => {
+            let more = rng.pick(&[1, HEAD, SEGMENT - 1, SEGMENT, 2 * SEGMENT]);
+            return [net, &vec![0; more]].concat();
+        }
         3 => {
             bad[place][0] = rng.pick(if place == 0 { &[0, 2, 3] } else { &[0, 1, 3] });
             seal(&mut bad[place]);
@@ -521,7 +537,8 @@ pub fn change(rng: &mut Rng, text: &mut Vec<u8>) {
         4 => text.truncate(at),
         _ => {
             // Two digits of one line change places: the check often stays.
-            let other = (at / 61 * 61 + rng.below(61)).min(text.len() - 1);
+            let length = line_length(SEGMENT);
+            let other = (at / length * length + rng.below(length)).min(text.len() - 1);
             text.swap(at, other);
         }
     }

@@ -1,6 +1,7 @@
 //! How the fields of a random town's streets are drawn.
 
-use super::Rng;
+use super::{Rng, MOST_FEET};
+use crate::frame::MOST_TURN_FEET;
 use crate::town::{Approach, End, Segment};
 
 /// How the fields of a town's streets are drawn.
@@ -54,8 +55,10 @@ impl Fields {
     pub fn street(&self, rng: &mut Rng, a: End, b: End) -> Segment {
         let length = match self.lengths {
             Some(list) => rng.pick(list),
-            None if self.style == Style::Edges => rng.pick(&[1, 2, 255, 256, 257, 52_799, 52_800]),
-            None => rng.range(1, 52_800) as u16,
+            None if self.style == Style::Edges => {
+                rng.pick(&[1, 2, 255, 256, 257, MOST_FEET - 1, MOST_FEET])
+            }
+            None => rng.range(1, MOST_FEET.into()) as u16,
         };
         let ways = if rng.chance(self.one_way) {
             rng.range(1, 2) as u8
@@ -160,11 +163,12 @@ impl Fields {
 
     /// The same approach with a turn lane.
     fn turn_lane(&self, rng: &mut Rng, approach: Approach) -> Approach {
+        let most = MOST_TURN_FEET;
         let kind = rng.range(1, 3) as u8;
         let (length, speed) = match self.style {
-            Style::Uniform => (rng.range(1, 2_000) as u16, rng.range(5, 85) as u8),
+            Style::Uniform => (rng.range(1, most.into()) as u16, rng.range(5, 85) as u8),
             Style::Edges => (
-                rng.pick(&[1, 2, 74, 75, 76, 149, 150, 151, 255, 256, 1_999, 2_000]),
+                rng.pick(&[1, 2, 74, 75, 76, 149, 150, 151, 255, 256, most - 1, most]),
                 rng.pick(&[5, 14, 15, 16, 19, 20, 21, 84, 85]),
             ),
             _ => (

@@ -2,6 +2,7 @@
 
 use super::fields::{Fields, Style, BLOCKS, HALVES, TIED};
 use super::{Rng, Shape};
+use crate::edition::{TOWN_NODES, TOWN_SEGMENTS};
 use crate::town::{end, End, Segment, Town};
 
 /// A town in the making: which legs are still free.
@@ -14,7 +15,7 @@ struct Plan {
 
 impl Plan {
     fn new(nodes: usize, fields: Fields, wanted: usize) -> Plan {
-        let nodes = nodes.clamp(1, 1_000);
+        let nodes = nodes.clamp(1, TOWN_NODES);
         Plan {
             town: Town::new(nodes as u16),
             used: vec![0; nodes],
@@ -28,7 +29,7 @@ impl Plan {
     }
 
     fn full(&self) -> bool {
-        self.town.segments.len() >= self.wanted.min(1_000)
+        self.town.segments.len() >= self.wanted.min(TOWN_SEGMENTS)
     }
 
     fn free_leg(&self, rng: &mut Rng, node: usize) -> Option<End> {
@@ -100,11 +101,11 @@ impl Plan {
 
 /// A random town: of the shape, from the seed, with about so many segments.
 ///
-/// More than the shape or the paper allows are cut: 1,000, a tree 999, a
-/// single node 4.
+/// More than a town or the shape allows are cut: a tree has one segment less
+/// than nodes, a single node at most 4.
 pub fn town(shape: Shape, seed: u64, segments: usize) -> Town {
     let rng = &mut Rng::new(seed ^ (shape as u64) << 48);
-    let wanted = segments.min(1_000);
+    let wanted = segments.min(TOWN_SEGMENTS);
     let fields = Fields::draw(rng);
     match shape {
         // A late parent makes deep trees, any parent shallow ones.
@@ -119,7 +120,10 @@ pub fn town(shape: Shape, seed: u64, segments: usize) -> Town {
         Shape::Maze => maze(rng, fields, wanted),
         Shape::Wild => wild(rng, fields, wanted),
         Shape::Single => filled(rng, fields, 1, wanted),
-        Shape::Empty => Town::new(rng.pick(&[1, 2, 10, 255, 256, 999, 1_000])),
+        Shape::Empty => {
+            let most = TOWN_NODES as u16;
+            Town::new(rng.pick(&[1, 2, 10, 255, 256, most - 1, most]))
+        }
         Shape::Sparse => sparse(rng, fields, wanted),
     }
 }
@@ -210,12 +214,12 @@ fn wild(rng: &mut Rng, mut fields: Fields, wanted: usize) -> Town {
 }
 
 fn sparse(rng: &mut Rng, fields: Fields, wanted: usize) -> Town {
-    let mut plan = Plan::new(1_000, fields, wanted);
-    let start = rng.below(1_000);
+    let mut plan = Plan::new(TOWN_NODES, fields, wanted);
+    let start = rng.below(TOWN_NODES);
     let near = wanted / 2 + 2;
     for _ in 0..8 * wanted {
         let (a, b) = (rng.below(near), rng.below(near));
-        plan.join(rng, (start + a) % 1_000, (start + b) % 1_000);
+        plan.join(rng, (start + a) % TOWN_NODES, (start + b) % TOWN_NODES);
     }
     plan.town
 }
@@ -229,7 +233,7 @@ pub fn mixed_grid(seed: u64, segments: usize) -> Town {
         one_way: 10,
         lengths: Some(&BLOCKS),
     };
-    let mut town = grid(&mut rng, fields(Style::Gentle), segments.min(1_000));
+    let mut town = grid(&mut rng, fields(Style::Gentle), segments.min(TOWN_SEGMENTS));
     let busier = fields(Style::Mixed);
     for street in &mut town.segments {
         if rng.chance(30) {
