@@ -162,10 +162,14 @@ pub fn same_route(
         place,
     );
     compare(of_route(here), of_route(there), runs_here, &buffer);
-    if (1 <= tolerance) & (tolerance <= 4) {
-        if length_of(from, to, here) != least_length(net, from, to, (tolerance % 5) as u8) {
-            differs();
-        }
+    if tolerance < 1 {
+        return;
+    }
+    if 4 < tolerance {
+        return;
+    }
+    if length_of(from, to, here) != least_length(net, from, to, tolerance as u8) {
+        differs();
     }
 }
 

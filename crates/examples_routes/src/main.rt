@@ -32,7 +32,7 @@ const RUN: u16 = 9;
 
 const PLACE: usize = 50;
 
-// As many runs from the place on, and as many elements after them.
+// A run for each of a town from the place on, and as many elements after them as before.
 const BUFFER: usize = PLACE + RUNS + PLACE;
 
 fn put(number: usize) {

@@ -2,3 +2,4 @@ pub mod EditionLaws
 pub mod RangeLaws
 pub mod FrameLaws
 pub mod FaultLaws
+pub mod TownLaws

@@ -33,7 +33,7 @@ crossingOk e f i =
     (crossesNothing e (control f i) && eqb (lanesCrossed f i) 0 && eqb (speedCrossed f i) 0)
     || (within 2 4 (control f i) && within 1 12 (lanesCrossed f i) && within 5 85 (speedCrossed f i))
 
--- Turn kind 0 has length and turning speed 0; the others a length from 1 up and 5 to 85.
+-- Turn kind 0 has length and turning speed 0; the others 1 to `mostTurnFeet` and 5 to 85.
 unfoldable pub turnLaneOk : List ℕ → ℕ → Bool
 turnLaneOk f i =
     (eqb (turnKind f i) 0 && eqb (turnFeet f i) 0 && eqb (turningSpeed f i) 0)

@@ -2,12 +2,13 @@
 ghost use mathlib.Core.Path.{_≡_};
 ghost use Rattle.frames.specs.Edition.{editionOk, mostNodes, mostSegments, mostFeet, marksOk, crossesNothing};
 ghost use Rattle.frames.specs.Steps.Sizes.{Extra, FrameSize};
+use crate::fields;
 
 // The longest turn lane, in feet.
 pub const MOST_TURN_FEET: usize = 2000;
 
 // In so many bytes every network that Read can keep has room.
-pub const MOST_KEPT: usize = 7 + SEGMENT_BYTES * 1000;
+pub const MOST_KEPT: usize = fields::HEAD_BYTES + SEGMENT_BYTES * 1000;
 
 // The bytes of a segment's frame where its length has 2.
 pub const SEGMENT_BYTES: usize = 30;

@@ -8,26 +8,18 @@ use mathlib.Core.List.{List}
 use native.Mathlib.Omega.{arith}
 use lib.Dec.{leb}
 use lib.ListN.{length}
-use borrow.Author.Tests.{leb-true, le-leb}
-use Rattle.lists.proofs.Facts.{and-true}
+use borrow.Author.Tests.{le-leb}
 use Rattle.lists.proofs.Lists.{true-is-false}
 use Rattle.frames.specs.Steps.Sizes.{townSize, countySize, isTown}
 use Rattle.frames.specs.Edition.{mostKept}
 use Rattle.frames.specs.Ranges.{headOk}
 use Rattle.frames.proofs.EditionLaws.{kept-most}
 use Rattle.frames.proofs.FrameLaws.{head-limits}
+use Rattle.frames.proofs.TownLaws.{town-nodes}
 use Rattle.network.specs.Network.{headOf, editionOf, nodesOf, segmentsOf, isNetwork}
 use Rattle.network.specs.Steps.Corners.{NoCorners}
 use Rattle.network.specs.Steps.Checks.{Awaits, isCounty}
 use Rattle.network.proofs.NetworkLaws.{passed}
-
-pub town-nodes : (nodes segments : ℕ) → isTown nodes segments ≡ true → nodes ≤ townSize
-unfolding isTown
-town-nodes nodes segments t = leb-true _ _ (and-true (leb nodes townSize) (leb segments townSize) t .0)
-
-pub town-segments : (nodes segments : ℕ) → isTown nodes segments ≡ true → segments ≤ townSize
-unfolding isTown
-town-segments nodes segments t = leb-true _ _ (and-true (leb nodes townSize) (leb segments townSize) t .1)
 
 pub county-awaits : {net index : List ℕ} → NoCorners countySize index → Awaits net index
 county-awaits {net} w = record { free = λ l h. w (nodesOf net) (head-limits (headOf net) h .few-nodes) }

@@ -11,7 +11,7 @@ use mathlib.Core.List.{List}
 use mathlib.Core.Logic.{_⊎_, inl, inr, ⊎-elim}
 use Prim.Native.Nat.{ℕ, _+_, _*_, _-_, _%_, _≤_, _<_}
 use native.Mathlib.Omega.{arith}
-use lib.ListN.{set, length-set}
+use lib.ListN.{set, replicate, length-set, length-replicate, getD-replicate}
 use lib.Seq.{getD-set-same, getD-set-other}
 use borrow.Author.Tests.{ne-eqb, eqb-false, le-leb, leb-true}
 use Rattle.routes.specs.Steps.Labels.{unlabelled, edgeOf}
@@ -49,6 +49,14 @@ pub noted-elsewhere : {net : List ℕ} {t n u : ℕ} {best unfound unfound′ : 
     → at unfound to ≡ 0 → at unfound′ to ≡ 0
 unfolding arrivesAt
 noted-elsewhere {net} {u = u} N to away z = N .elsewhere to (λ (e : to ≡ finish net u). eqb-false (finish net u) to away (sym e)) ∙ z
+
+-- zeros say nothing of any node
+pub zeros-unknown : (most n : ℕ) → n ≤ most → Unknown n (replicate most 0)
+zeros-unknown most n l =
+    record {
+      long = omega (arith, length-replicate {A = ℕ} most 0);
+      none = λ v h. getD-replicate {A = ℕ} most v 0 0 (omega arith);
+    }
 
 -- and at first, where nothing is noted but at the start, of any other node
 pub unfound-apart : (from : ℕ) {nodes to : ℕ} {unfound : List ℕ} → Unknown nodes unfound → (from ≡ to → ⊥) → to < nodes → at (set unfound from nothing) to ≡ 0

@@ -1,7 +1,7 @@
 -- The queue is empty and nothing is known of any node, and both have room for a town: so the search may begin.
 -- Assumes nothing.
 use Rattle.network.specs.Network.{nodesOf, segmentsOf}
-use Rattle.network.proofs.SizeLaws.{town-nodes, town-segments}
+use Rattle.frames.proofs.TownLaws.{town-nodes, town-segments}
 use native.Mathlib.Omega.{arith}
 use borrow.Author.Needs.{needs}
 use Rattle.search_rounds.proofs.nearest.search_in_town.Statement.{statement}

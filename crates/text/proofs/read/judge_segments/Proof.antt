@@ -7,7 +7,7 @@ use Rattle.lists.proofs.Facts.{guard-passes}
 use Rattle.frames.specs.declared.Head.{Head}
 use Rattle.frames.specs.Steps.Sizes.{townSize}
 use Rattle.frames.specs.Frame.{nodes}
-use Rattle.network.proofs.SizeLaws.{town-nodes}
+use Rattle.frames.proofs.TownLaws.{town-nodes}
 use Rattle.text.proofs.read.judge_segments.Statement.{statement}
 use Rattle.text.proofs.read.judge_segments.Tie as tie
 
