@@ -20,22 +20,22 @@ int main(int count, char **words)
 
     uint32_t refused = splicereel_read(text, length, net, sizeof net, told);
     if (refused != 0) {
-        printf("refused %u at line %u\n", (unsigned)refused, (unsigned)told[0]);
-        return 1;
+        fprintf(stderr, "line %u: %s\n", (unsigned)told[SPLICEREEL_READ_LINE], splicereel_refusal_text(refused));
+        return 2;
     }
-    refused = splicereel_route(net, told[0], strtoul(words[2], NULL, 10), strtoul(words[3], NULL, 10),
+    refused = splicereel_route(net, told[SPLICEREEL_READ_BYTES], strtoul(words[2], NULL, 10), strtoul(words[3], NULL, 10),
         strtoul(words[4], NULL, 10), best, SPLICEREEL_MAX_RUNS, previous, SPLICEREEL_MAX_RUNS,
         runs, SPLICEREEL_MAX_RUNS, 0, told);
     if (refused != 0) {
-        printf("refused %u\n", (unsigned)refused);
+        fprintf(stderr, "%s\n", splicereel_refusal_text(refused));
+        return 2;
+    }
+    if (told[SPLICEREEL_ROUTE_FOUND] == 0) {
+        printf("none\n");
         return 1;
     }
-    if (told[0] == 0) {
-        printf("none\n");
-        return 0;
-    }
-    for (uint32_t i = 0; i < told[1]; i++)
+    for (uint32_t i = 0; i < told[SPLICEREEL_ROUTE_COUNT]; i++)
         printf("segment %d from %s\n", runs[i] / 2, runs[i] % 2 == 0 ? "A to B" : "B to A");
-    printf("%u feet, level %u\n", (unsigned)told[2], (unsigned)told[3]);
+    printf("%u feet, level %u\n", (unsigned)told[SPLICEREEL_ROUTE_FEET], (unsigned)told[SPLICEREEL_ROUTE_LEVEL]);
     return 0;
 }

@@ -37,6 +37,12 @@
 #include <stddef.h>
 #include <stdint.h>
 
+/* The version of this header and of the archive that it belongs to. */
+#define SPLICEREEL_VERSION_MAJOR 0
+#define SPLICEREEL_VERSION_MINOR 1
+#define SPLICEREEL_VERSION_PATCH 0
+#define SPLICEREEL_VERSION "0.1.0"
+
 #ifdef __cplusplus
 extern "C" {
 #endif
@@ -107,6 +113,76 @@ enum splicereel_number {
     SPLICEREEL_NO_MOVEMENT = 13
 };
 
+/* The text of what a call returned, in English, without a full stop. */
+static inline const char *splicereel_refusal_text(uint32_t number)
+{
+    switch (number) {
+    case SPLICEREEL_ANSWERED:
+        return "the call answers";
+    case SPLICEREEL_NOT_DIGITS:
+        return "a line is not whole pairs of uppercase hexadecimal digits ended by byte 0A";
+    case SPLICEREEL_WRONG_CHECK:
+        return "the check of a frame is wrong";
+    case SPLICEREEL_WRONG_FRAME:
+        return "the kind or the length of a frame is wrong for its position";
+    case SPLICEREEL_WRONG_FIELD:
+        return "a field is against the ranges or rules";
+    case SPLICEREEL_WRONG_COUNT:
+        return "a segment beyond the head's number, or too few segments";
+    case SPLICEREEL_LEG_TAKEN:
+        return "two segment ends share node and leg";
+    case SPLICEREEL_OUTPUT_TOO_SHORT:
+        return "the output is shorter than the network";
+    case SPLICEREEL_NOT_A_NETWORK:
+        return "the bytes are no network that Read could keep";
+    case SPLICEREEL_NO_SUCH_NODE:
+        return "there is no such node";
+    case SPLICEREEL_NO_SUCH_TOLERANCE:
+        return "a tolerance is 1 to 4";
+    case SPLICEREEL_NO_ROOM:
+        return "scratch or route buffer have not two numbers for each segment";
+    case SPLICEREEL_NO_SUCH_RUN:
+        return "there is no such segment or run, or the run is not open";
+    case SPLICEREEL_NO_MOVEMENT:
+        return "no movement joins the two runs";
+    default:
+        return "a number that no call returns";
+    }
+}
+
+/* Where in `told` a call tells what. */
+enum splicereel_told {
+    /* Read: the bytes written where it accepts, the line where it refuses. */
+    SPLICEREEL_READ_BYTES = 0,
+    SPLICEREEL_READ_LINE = 0,
+
+    /* Judge a segment, Judge a movement: the level, 1 to 4. */
+    SPLICEREEL_JUDGE_LEVEL = 0,
+    /* Judge a segment: what governs the level, a splicereel_measure. */
+    SPLICEREEL_JUDGE_MEASURE = 1,
+
+    /* Route, Least stress: 1 where a route is found, 0 for none. */
+    SPLICEREEL_ROUTE_FOUND = 0,
+    /* The number of its runs. */
+    SPLICEREEL_ROUTE_COUNT = 1,
+    /* Its length. */
+    SPLICEREEL_ROUTE_FEET = 2,
+    /* The greatest level of its runs and movements. */
+    SPLICEREEL_ROUTE_LEVEL = 3,
+    /* Least stress: the tolerance. */
+    SPLICEREEL_ROUTE_TOLERANCE = 4
+};
+
+/* What governs a segment's level. */
+enum splicereel_measure {
+    SPLICEREEL_LANES = 1,
+    SPLICEREEL_REACH = 2,
+    SPLICEREEL_SPEED = 3,
+    SPLICEREEL_BLOCKING = 4,
+    SPLICEREEL_MIXED_TRAFFIC = 5,
+    SPLICEREEL_SEPARATE_PATH = 6
+};
+
 /*
  * Read: a network text into kept bytes.
  *
@@ -125,8 +201,8 @@ uint32_t splicereel_read(
 /*
  * Judge a segment of a kept network.
  *
- * Returns 0: told[0] is the level, 1 to 4; told[1] is the governing measure:
- * 1 lanes, 2 reach, 3 speed, 4 blocking, 5 mixed traffic, 6 separate path.
+ * Returns 0: told[0] is the level, 1 to 4; told[1] is the governing measure
+ * (enum splicereel_measure).
  * Refused: returns 8 or 12, told stays. The other elements of told stay.
  */
 uint32_t splicereel_judge_segment(

@@ -13,7 +13,7 @@ struct Time {
 /// `CLOCK_THREAD_CPUTIME_ID` of Linux.
 const THREAD: i32 = 3;
 
-extern "C" {
+unsafe extern "C" {
     fn clock_gettime(clock: i32, time: *mut Time) -> i32;
 }
 

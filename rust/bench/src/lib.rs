@@ -5,11 +5,11 @@
 
 pub mod clock;
 
+use oracle::Net;
 use splicereel::ffi::{self, Lent, Told};
 use std::hint::black_box;
-use twin::gen::Rng;
-use twin::oracle::Net;
-use twin::Town;
+use towns::Town;
+use towns::draw::Rng;
 
 /// Which implementation is called.
 #[derive(Clone, Copy, Debug, PartialEq, Eq)]
@@ -207,13 +207,14 @@ fn movements(rng: &mut Rng, net: &[u8]) -> Vec<(usize, usize)> {
 
 #[cfg(test)]
 mod tests {
-    use super::{Call, Side, Subject, QUESTIONS};
+    use super::{Call, QUESTIONS, Side, Subject};
+    use towns::draw::mixed_grid;
 
     /// What is timed is the same work: both sides answer every question alike.
     #[test]
     fn both_sides_answer_alike() {
         for segments in [30, 125] {
-            let mut subject = Subject::new(&twin::gen::mixed_grid(11, segments), 11);
+            let mut subject = Subject::new(&mixed_grid(11, segments), 11);
             for call in Call::ALL {
                 let mut found = 0;
                 for question in 0..QUESTIONS {

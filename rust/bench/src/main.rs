@@ -2,14 +2,15 @@
 //! Markdown tables.
 
 use bench::clock::microseconds;
-use bench::{Call, Side, Subject, QUESTIONS};
+use bench::{Call, QUESTIONS, Side, Subject};
 use std::fs;
-use twin::gen::{self, Shape};
-use twin::{Town, TOWN_SEGMENTS};
+use towns::Town;
+use towns::draw::{self, Shape};
+use towns::sizes::MOST_SEGMENTS;
 
 /// Sizes of the first table, in segments; growth is from the first to the
 /// last.
-const SIZES: [usize; 4] = [125, 250, 500, TOWN_SEGMENTS];
+const SIZES: [usize; 4] = [125, 250, 500, MOST_SEGMENTS];
 /// Samples of each side; odd, so that one is the median.
 const SAMPLES: usize = 15;
 /// A sample takes at least so many microseconds.
@@ -131,7 +132,7 @@ fn subjects(town: impl Fn(u64) -> Town) -> Vec<Subject> {
 fn by_size() {
     let mut sizes: Vec<Vec<Subject>> = SIZES
         .iter()
-        .map(|&segments| subjects(|seed| gen::mixed_grid(seed, segments)))
+        .map(|&segments| subjects(|seed| draw::mixed_grid(seed, segments)))
         .collect();
     print!("| call |");
     SIZES.iter().for_each(|size| print!(" {size} segments |"));
@@ -170,11 +171,11 @@ fn by_shape() {
     CALLS.iter().for_each(|call| print!(" {} |", call.title()));
     println!("\n|---|---|{}", "---|".repeat(CALLS.len()));
     for shape in Shape::ALL {
-        let town = gen::town(shape, SEEDS.start, TOWN_SEGMENTS);
+        let town = draw::town(shape, SEEDS.start, MOST_SEGMENTS);
         if town.segments.len() < 100 {
             continue; // one node, or none with streets: nothing to time
         }
-        let mut towns = [subjects(|seed| gen::town(shape, seed, TOWN_SEGMENTS))];
+        let mut towns = [subjects(|seed| draw::town(shape, seed, MOST_SEGMENTS))];
         print!(
             "| {} | {}, {} |",
             shape.name(),
@@ -216,6 +217,6 @@ fn main() {
         SIZES[SIZES.len() - 1]
     );
     by_size();
-    println!("Other shapes, at {TOWN_SEGMENTS} segments or as many as they have.\n");
+    println!("Other shapes, at {MOST_SEGMENTS} segments or as many as they have.\n");
     by_shape();
 }

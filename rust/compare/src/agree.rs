@@ -1,19 +1,15 @@
 //! Whether two sides agree on a question, in everything that can be seen.
 
 use crate::question::{Question, Seen};
+use oracle::Net;
 use splicereel::ffi::Told;
-use twin::oracle::Net;
 
 /// What was wrong, in words.
 type Complaint = String;
 
 /// Nothing where the fact holds.
 fn holds(fact: bool, complaint: &str) -> Result<(), Complaint> {
-    if fact {
-        Ok(())
-    } else {
-        Err(complaint.into())
-    }
+    if fact { Ok(()) } else { Err(complaint.into()) }
 }
 
 /// Holds what the archive did to what the twin did, and to what no call may

@@ -21,12 +21,12 @@ mod reached;
 mod rounds;
 
 use calls::{Calls, Twin};
-use question::{ask, Question, Seen};
+use oracle::Net;
+use question::{Question, Seen, ask};
 pub use reached::Reached;
 use splicereel::ffi::Told;
 use std::fmt;
-use twin::gen::Rng;
-use twin::oracle::Net;
+use towns::draw::Rng;
 
 /// A comparison that failed, told so that it can be made again by hand.
 #[derive(Debug)]

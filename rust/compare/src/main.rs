@@ -5,7 +5,7 @@ use compare::calls::Archive;
 use compare::{Comparer, Mismatch};
 use std::process::ExitCode;
 use std::time::{Duration, Instant};
-use twin::program::{self, number};
+use towns::program::{self, number};
 
 /// What a command line asks for.
 enum Task {

@@ -4,8 +4,8 @@ use crate::calls::Calls;
 use splicereel::ffi::Told;
 use std::fmt;
 use std::hint::black_box;
-use twin::gen::Rng;
-use twin::lend::{Guarded, Lengths, Lent};
+use towns::draw::Rng;
+use towns::lend::{Guarded, Lengths, Lent};
 
 /// A call's arguments besides the bytes, which are a text for Read and a kept
 /// network for the others.

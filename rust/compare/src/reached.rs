@@ -3,6 +3,7 @@
 use crate::question::{Question, Seen};
 use std::collections::BTreeMap;
 use std::fmt;
+use towns::draw::Shape;
 
 /// How often each thing was reached.
 #[derive(Clone, Debug, Default)]
@@ -147,6 +148,6 @@ fn must_reach() -> Vec<String> {
         all.extend(["empty", "ridden"].map(|size| format!("{call} {size} route")));
     }
     all.extend(ROOMS.map(|room| format!("room: {room}")));
-    all.extend(twin::gen::Shape::ALL.map(|shape| format!("shape: {}", shape.name())));
+    all.extend(Shape::ALL.map(|shape| format!("shape: {}", shape.name())));
     all
 }

@@ -4,13 +4,12 @@
 use crate::question::Question;
 use crate::reached::ROOMS;
 use crate::{Comparer, Mismatch};
+use oracle::Net;
 use splicereel::ffi::Told;
 use splicereel::{MAX_NETWORK, TOWN_SEGMENTS};
-use twin::gen::{self, damage, damage_kept, Rng, Shape, Spot};
-use twin::lend::Lengths;
-use twin::oracle::Net;
-use twin::town::line;
-use twin::Town;
+use towns::draw::{self, Rng, Shape, Spot, damage, damage_kept};
+use towns::lend::Lengths;
+use towns::town::{Town, text_of};
 
 type Done = Result<(), Box<Mismatch>>;
 
@@ -41,7 +40,7 @@ pub fn play(comparer: &mut Comparer<'_>, rng: &mut Rng) -> Done {
         _ => rng.range(TOWN_SEGMENTS - 100, TOWN_SEGMENTS),
     };
     let seed = rng.bits();
-    let town = gen::town(shape, seed, segments);
+    let town = draw::town(shape, seed, segments);
     comparer.about = format!("{} from seed {seed}, {segments} segments", shape.name());
     comparer.reached.count(format!("shape: {}", shape.name()));
     let bytes = town.bytes();
@@ -68,7 +67,7 @@ fn texts(comparer: &mut Comparer<'_>, rng: &mut Rng, subject: &Subject) -> Done 
     }
     for number in 1..=7 {
         for spot in Spot::ALL {
-            if let Some(damaged) = damage(rng, &subject.bytes, number, spot) {
+            if let Some(damaged) = damage(rng, &subject.town, number, spot) {
                 let room = damaged.output;
                 comparer.compare(rng, None, &damaged.text, Question::Read { room })?;
             }
@@ -83,7 +82,7 @@ fn noise(comparer: &mut Comparer<'_>, rng: &mut Rng, subject: &Subject) -> Done 
     for _ in 0..6 {
         let mut text = subject.town.text();
         for _ in 0..rng.range(1, 3) {
-            gen::change(rng, &mut text);
+            draw::change(rng, &mut text);
         }
         let room = rng.pick(&[subject.bytes.len(), MAX_NETWORK, 67, 7]);
         comparer.compare(rng, None, &text, Question::Read { room })?;
@@ -108,15 +107,13 @@ fn noise(comparer: &mut Comparer<'_>, rng: &mut Rng, subject: &Subject) -> Done 
 /// A town with one byte of one frame changed and the frame sealed again: its
 /// text and its bytes.
 fn changed_field(rng: &mut Rng, town: &Town) -> (Vec<u8>, Vec<u8>) {
-    let mut frames: Vec<Vec<u8>> = vec![town.head()];
-    frames.extend(town.segments.iter().map(|segment| segment.frame()));
+    let mut frames = town.frames();
     let place = rng.below(frames.len());
     let frame = &mut frames[place];
     let at = rng.below(frame.len());
     frame[at] = rng.pick(&[0, 1, 2, 3, 4, 5, 7, 8, 12, 13, 60, 61, 85, 86, 255]);
-    gen::seal(frame);
-    let text = frames.iter().flat_map(|frame| line(frame)).collect();
-    (text, frames.concat())
+    draw::seal(frame);
+    (text_of(&frames), frames.concat())
 }
 
 /// Numbers that a narrower one would take for `good`, and the greatest.
@@ -328,7 +325,7 @@ fn odd_search(rng: &mut Rng, subject: &Subject, kind: &str, least: bool) -> Ques
 /// Bytes that are no network, whatever else is asked.
 fn no_networks(comparer: &mut Comparer<'_>, rng: &mut Rng, subject: &Subject) -> Done {
     for _ in 0..4 {
-        let bad = damage_kept(rng, &subject.bytes);
+        let bad = damage_kept(rng, &subject.town);
         let segment = rng.pick(&[0, 1, usize::MAX]);
         comparer.compare(rng, None, &bad, Question::Segment { segment })?;
         let (first, second) = (rng.below(8), rng.pick(&[0, 3, usize::MAX]));

@@ -1,8 +1,8 @@
 //! The archive against the twin, and the comparison against faults made on
 //! purpose.
 
-use compare::calls::{Archive, Calls, Twin};
 use compare::Comparer;
+use compare::calls::{Archive, Calls, Twin};
 use splicereel::ffi::{Lent, Told};
 
 /// Rounds of about 140 comparisons each; a mismatch tells how to replay it.

@@ -16,7 +16,7 @@ fn main() -> Result<(), Box<dyn Error>> {
             for run in route.runs() {
                 println!("{run}");
             }
-            println!("{} feet, level {}", route.length(), route.level());
+            println!("{} feet, level {}", route.feet(), route.level());
         }
     }
     Ok(())

@@ -1,7 +1,8 @@
 //! What the calls answer with: levels, measures, runs.
 
 use crate::refusal::Refusal;
-use std::fmt;
+use core::fmt;
+use core::str::FromStr;
 
 /// A stress level, 1 to 4; a tolerance that a route keeps is one too.
 ///
@@ -12,6 +13,8 @@ use std::fmt;
 /// assert_eq!(Level::Three.to_string(), "3");
 /// assert_eq!(Level::from_number(3), Some(Level::Three));
 /// assert_eq!(Level::from_number(0), None);
+/// assert_eq!("3".parse(), Ok(Level::Three));
+/// assert_eq!("5".parse::<Level>().unwrap_err().to_string(), "a tolerance is 1 to 4");
 /// ```
 #[derive(Clone, Copy, Debug, PartialEq, Eq, PartialOrd, Ord, Hash)]
 pub enum Level {
@@ -47,6 +50,18 @@ impl Level {
             .ok()
             .and_then(Level::from_number)
             .ok_or(Refusal::Unknown(number))
+    }
+}
+
+/// The level of one digit, 1 to 4; otherwise [`Refusal::NoSuchTolerance`].
+impl FromStr for Level {
+    type Err = Refusal;
+
+    fn from_str(word: &str) -> Result<Level, Refusal> {
+        word.parse()
+            .ok()
+            .and_then(Level::from_number)
+            .ok_or(Refusal::NoSuchTolerance)
     }
 }
 
@@ -140,7 +155,7 @@ pub struct Found {
     /// The number of its runs.
     pub count: usize,
     /// Its length in feet.
-    pub length: u32,
+    pub feet: u32,
     /// The greatest level of its runs and movements.
     pub level: Level,
 }

@@ -9,7 +9,7 @@
 #![allow(unsafe_code)]
 
 /// What a call tells besides its number.
-pub type Told = [u32; 8];
+pub type Told = [u32; splicereel_sys::TOLD];
 
 /// What a search needs to borrow.
 ///
@@ -28,79 +28,17 @@ pub struct Lent<'l> {
     pub place: usize,
 }
 
-mod archive {
-    unsafe extern "C" {
-        pub fn splicereel_read(
-            text: *const u8,
-            text_length: usize,
-            output: *mut u8,
-            output_length: usize,
-            told: *mut u32,
-        ) -> u32;
-
-        pub fn splicereel_judge_segment(
-            net: *const u8,
-            net_length: usize,
-            segment: usize,
-            told: *mut u32,
-        ) -> u32;
-
-        pub fn splicereel_judge_movement(
-            net: *const u8,
-            net_length: usize,
-            first: usize,
-            second: usize,
-            told: *mut u32,
-        ) -> u32;
-
-        pub fn splicereel_route(
-            net: *const u8,
-            net_length: usize,
-            from: usize,
-            to: usize,
-            tolerance: usize,
-            best: *mut u32,
-            best_length: usize,
-            previous: *mut u32,
-            previous_length: usize,
-            buffer: *mut u16,
-            buffer_length: usize,
-            place: usize,
-            told: *mut u32,
-        ) -> u32;
-
-        pub fn splicereel_least_stress(
-            net: *const u8,
-            net_length: usize,
-            from: usize,
-            to: usize,
-            best: *mut u32,
-            best_length: usize,
-            previous: *mut u32,
-            previous_length: usize,
-            buffer: *mut u16,
-            buffer_length: usize,
-            place: usize,
-            told: *mut u32,
-        ) -> u32;
-    }
-}
-
 // What every SAFETY comment below rests on: the archive's functions have no
-// precondition beyond C's own, that each pointer is not null, is aligned, and
-// has the elements that its length says, for reading, and for writing too
-// where it is not const; that nothing else touches them during the call; and
-// that no slice which is written overlaps another. A Rust slice keeps all of
-// it: its pointer is aligned and not null even where it is empty, and a
-// mutable slice shares no element with any other borrow. They keep no pointer
-// and have no state of their own.
+// precondition beyond C's own, which crate splicereel-sys lists. A Rust slice
+// keeps all of it: its pointer is aligned and not null even where it is empty,
+// and a mutable slice shares no element with any other borrow.
 
 /// Read. 0: `told[0]` bytes are written. A refusal: `told[0]` is its line.
 #[inline]
 pub fn read(text: &[u8], output: &mut [u8], told: &mut Told) -> u32 {
     // SAFETY: pointers and lengths of live slices; see above.
     unsafe {
-        archive::splicereel_read(
+        splicereel_sys::splicereel_read(
             text.as_ptr(),
             text.len(),
             output.as_mut_ptr(),
@@ -115,7 +53,7 @@ pub fn read(text: &[u8], output: &mut [u8], told: &mut Told) -> u32 {
 pub fn judge_segment(net: &[u8], segment: usize, told: &mut Told) -> u32 {
     // SAFETY: pointers and lengths of live slices; see above.
     unsafe {
-        archive::splicereel_judge_segment(net.as_ptr(), net.len(), segment, told.as_mut_ptr())
+        splicereel_sys::splicereel_judge_segment(net.as_ptr(), net.len(), segment, told.as_mut_ptr())
     }
 }
 
@@ -124,7 +62,7 @@ pub fn judge_segment(net: &[u8], segment: usize, told: &mut Told) -> u32 {
 pub fn judge_movement(net: &[u8], first: usize, second: usize, told: &mut Told) -> u32 {
     // SAFETY: pointers and lengths of live slices; see above.
     unsafe {
-        archive::splicereel_judge_movement(
+        splicereel_sys::splicereel_judge_movement(
             net.as_ptr(),
             net.len(),
             first,
@@ -147,7 +85,7 @@ pub fn route(
 ) -> u32 {
     // SAFETY: pointers and lengths of live slices; see above.
     unsafe {
-        archive::splicereel_route(
+        splicereel_sys::splicereel_route(
             net.as_ptr(),
             net.len(),
             from,
@@ -170,7 +108,7 @@ pub fn route(
 pub fn least_stress(net: &[u8], from: usize, to: usize, lent: Lent<'_>, told: &mut Told) -> u32 {
     // SAFETY: pointers and lengths of live slices; see above.
     unsafe {
-        archive::splicereel_least_stress(
+        splicereel_sys::splicereel_least_stress(
             net.as_ptr(),
             net.len(),
             from,

@@ -45,9 +45,9 @@ fn answered(number: u32) -> Result<(), Refusal> {
 /// use splicereel::{judge_segment, Level, Measure, Network, Refusal};
 /// # let text = include_bytes!(concat!(env!("CARGO_MANIFEST_DIR"), "/../../towns/block-town.txt"));
 /// let network = Network::read(text)?;
-/// let judged = judge_segment(network.bytes(), 0)?;
+/// let judged = judge_segment(network.as_bytes(), 0)?;
 /// assert_eq!((judged.level, judged.measure), (Level::One, Measure::SeparatePath));
-/// assert_eq!(judge_segment(network.bytes(), 3), Err(Refusal::NoSuchRun));
+/// assert_eq!(judge_segment(network.as_bytes(), 3), Err(Refusal::NoSuchRun));
 /// # Ok::<(), Box<dyn std::error::Error>>(())
 /// ```
 pub fn judge_segment(net: &[u8], segment: usize) -> Result<Judged, Refusal> {
@@ -69,9 +69,9 @@ pub fn judge_segment(net: &[u8], segment: usize) -> Result<Judged, Refusal> {
 /// # let text = include_bytes!(concat!(env!("CARGO_MANIFEST_DIR"), "/../../towns/block-town.txt"));
 /// let network = Network::read(text)?;
 /// // Straight on across the wide street, and to the right.
-/// assert_eq!(judge_movement(network.bytes(), 0, 4), Ok(Level::Four));
-/// assert_eq!(judge_movement(network.bytes(), 0, 2), Ok(Level::One));
-/// assert_eq!(judge_movement(network.bytes(), 0, 1), Err(Refusal::NoMovement));
+/// assert_eq!(judge_movement(network.as_bytes(), 0, 4), Ok(Level::Four));
+/// assert_eq!(judge_movement(network.as_bytes(), 0, 2), Ok(Level::One));
+/// assert_eq!(judge_movement(network.as_bytes(), 0, 1), Err(Refusal::NoMovement));
 /// # Ok::<(), Box<dyn std::error::Error>>(())
 /// ```
 pub fn judge_movement(net: &[u8], first: usize, second: usize) -> Result<Level, Refusal> {
@@ -87,7 +87,7 @@ fn found(told: &Told) -> Result<Option<Found>, Refusal> {
     }
     Ok(Some(Found {
         count: told[1] as usize,
-        length: told[2],
+        feet: told[2],
         level: Level::told(told[3])?,
     }))
 }
@@ -108,8 +108,8 @@ fn found(told: &Told) -> Result<Option<Found>, Refusal> {
 /// let network = Network::read(text)?;
 /// let (mut best, mut previous, mut buffer) = ([0; MAX_RUNS], [0; MAX_RUNS], [7; MAX_RUNS + 1]);
 /// let lent = Lent { best: &mut best, previous: &mut previous, buffer: &mut buffer, place: 1 };
-/// let found = route(network.bytes(), 0, 2, 3, lent)?.expect("a way round the block");
-/// assert_eq!((found.count, found.length, found.level), (3, 1_500, Level::One));
+/// let found = route(network.as_bytes(), 0, 2, 3, lent)?.expect("a way round the block");
+/// assert_eq!((found.count, found.feet, found.level), (3, 1_500, Level::One));
 /// assert_eq!(buffer[..5], [7, 0, 2, 4, 7]);
 /// # Ok::<(), Box<dyn std::error::Error>>(())
 /// ```
@@ -138,8 +138,8 @@ pub fn route(
 /// let network = Network::read(text)?;
 /// let (mut best, mut previous, mut buffer) = ([0; MAX_RUNS], [0; MAX_RUNS], [0; MAX_RUNS]);
 /// let lent = Lent { best: &mut best, previous: &mut previous, buffer: &mut buffer, place: 0 };
-/// let (found, tolerance) = least_stress(network.bytes(), 0, 2, lent)?.expect("a way");
-/// assert_eq!((found.length, tolerance), (1_500, Level::One));
+/// let (found, tolerance) = least_stress(network.as_bytes(), 0, 2, lent)?.expect("a way");
+/// assert_eq!((found.feet, tolerance), (1_500, Level::One));
 /// # Ok::<(), Box<dyn std::error::Error>>(())
 /// ```
 pub fn least_stress(

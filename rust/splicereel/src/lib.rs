@@ -10,7 +10,8 @@
 //!   [`least_stress`], with [`Lent`] for what a search borrows.
 //!
 //! Every call ends with an answer or a [`Refusal`] on every input; none
-//! panics, and a refusal leaves every lent slice as it was.
+//! panics, and a refusal leaves every lent slice as it was. The crate needs
+//! `alloc` and no operating system.
 //!
 //! ```
 //! use splicereel::{Level, Network};
@@ -27,16 +28,19 @@
 //! assert_eq!((network.nodes(), network.segments()), (3, 3));
 //!
 //! // Within tolerance 3 the way leads round the block, 1,500 feet.
-//! let route = network.route(0, 2, 3)?.expect("a way round the block");
-//! assert_eq!((route.length(), route.level()), (1_500, Level::One));
+//! let route = network.route(0, 2, Level::Three)?.expect("a way round the block");
+//! assert_eq!((route.feet(), route.level()), (1_500, Level::One));
 //! // Tolerance 4 crosses the wide street, 600 feet.
-//! let route = network.route(0, 2, 4)?.expect("a way across");
-//! assert_eq!((route.length(), route.level()), (600, Level::Four));
+//! let route = network.route(0, 2, Level::Four)?.expect("a way across");
+//! assert_eq!((route.feet(), route.level()), (600, Level::Four));
 //! # Ok::<(), Box<dyn std::error::Error>>(())
 //! ```
 
+#![no_std]
 #![deny(missing_docs)]
 #![deny(unsafe_code)]
+
+extern crate alloc;
 
 mod answer;
 pub mod ffi;

@@ -5,6 +5,8 @@ use crate::answer::{Found, Judged, Level, Run};
 use crate::ffi::Lent;
 use crate::lending;
 use crate::refusal::{ReadRefusal, Refusal};
+use alloc::vec;
+use alloc::vec::Vec;
 
 /// A network that Read accepted.
 ///
@@ -49,7 +51,7 @@ impl Network {
     /// ```
     /// use splicereel::{Network, Refusal};
     /// let network = Network::read(b"010100010000FD\n")?;
-    /// assert_eq!(Network::from_bytes(network.bytes().to_vec()), Ok(network));
+    /// assert_eq!(Network::from_bytes(network.as_bytes().to_vec()), Ok(network));
     /// assert_eq!(Network::from_bytes(vec![1, 2, 3]), Err(Refusal::NotANetwork));
     /// # Ok::<(), splicereel::ReadRefusal>(())
     /// ```
@@ -62,7 +64,7 @@ impl Network {
     }
 
     /// The kept bytes, for the lending calls.
-    pub fn bytes(&self) -> &[u8] {
+    pub fn as_bytes(&self) -> &[u8] {
         &self.bytes
     }
 
@@ -72,6 +74,11 @@ impl Network {
             Some(&[high, low]) => usize::from(u16::from_be_bytes([high, low])),
             _ => 0,
         }
+    }
+
+    /// The edition that its head names.
+    pub fn edition(&self) -> u8 {
+        self.bytes.get(1).copied().unwrap_or(0)
     }
 
     /// The number of nodes; they are numbered from 0.
@@ -103,30 +110,30 @@ impl Network {
         lending::judge_movement(&self.bytes, first.number(), second.number())
     }
 
-    /// A shortest route within a tolerance, 1 to 4; none means that there is
-    /// no route within it.
+    /// A shortest route within a tolerance; none means that there is no route
+    /// within it.
     ///
-    /// Refusals: [`Refusal::NoSuchNode`], [`Refusal::NoSuchTolerance`].
+    /// Refusal: [`Refusal::NoSuchNode`].
     ///
     /// ```
-    /// use splicereel::{Direction, Network, Refusal};
+    /// use splicereel::{Direction, Level, Network, Refusal};
     /// # let text = include_bytes!(concat!(env!("CARGO_MANIFEST_DIR"), "/../../towns/block-town.txt"));
     /// let network = Network::read(text)?;
-    /// let route = network.route(0, 2, 4)?.expect("a way across");
+    /// let route = network.route(0, 2, Level::Four)?.expect("a way across");
     /// let segments: Vec<usize> = route.runs().iter().map(|run| run.segment()).collect();
     /// assert_eq!(segments, [0, 2]);
     /// assert!(route.runs().iter().all(|run| run.direction() == Direction::AToB));
-    /// assert_eq!(network.route(0, 3, 4), Err(Refusal::NoSuchNode));
+    /// assert_eq!(network.route(0, 3, Level::Four), Err(Refusal::NoSuchNode));
     /// # Ok::<(), Box<dyn std::error::Error>>(())
     /// ```
     pub fn route(
         &self,
         from: usize,
         to: usize,
-        tolerance: usize,
+        tolerance: Level,
     ) -> Result<Option<Route>, Refusal> {
         let mut room = Room::of(self);
-        let found = lending::route(&self.bytes, from, to, tolerance, room.lend())?;
+        let found = lending::route(&self.bytes, from, to, tolerance.number(), room.lend())?;
         Ok(found.map(|found| room.route(found)))
     }
 
@@ -140,7 +147,7 @@ impl Network {
     /// # let text = include_bytes!(concat!(env!("CARGO_MANIFEST_DIR"), "/../../towns/block-town.txt"));
     /// let network = Network::read(text)?;
     /// let (route, tolerance) = network.least_stress(0, 2)?.expect("a way");
-    /// assert_eq!((route.length(), tolerance), (1_500, Level::One));
+    /// assert_eq!((route.feet(), tolerance), (1_500, Level::One));
     /// # Ok::<(), Box<dyn std::error::Error>>(())
     /// ```
     pub fn least_stress(&self, from: usize, to: usize) -> Result<Option<(Route, Level)>, Refusal> {
@@ -181,7 +188,7 @@ impl Room {
         let runs = self.buffer.into_iter().take(found.count);
         Route {
             runs: runs.map(Run::from).collect(),
-            length: found.length,
+            feet: found.feet,
             level: found.level,
         }
     }
@@ -193,7 +200,7 @@ impl Room {
 #[derive(Clone, Debug, PartialEq, Eq, Hash)]
 pub struct Route {
     runs: Vec<Run>,
-    length: u32,
+    feet: u32,
     level: Level,
 }
 
@@ -204,8 +211,8 @@ impl Route {
     }
 
     /// The length in feet.
-    pub fn length(&self) -> u32 {
-        self.length
+    pub fn feet(&self) -> u32 {
+        self.feet
     }
 
     /// The greatest level of its runs and movements.

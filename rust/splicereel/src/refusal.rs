@@ -1,9 +1,12 @@
 //! Refusals: why a call did not answer.
 
-use std::error::Error;
-use std::fmt;
+use core::error::Error;
+use core::fmt;
 
 /// Why a call refused.
+///
+/// Both its forms of print are words, so that a program whose `main` ends in
+/// `?` says what is wrong.
 ///
 /// ```
 /// use splicereel::{judge_segment, Refusal};
@@ -12,8 +15,9 @@ use std::fmt;
 /// assert_eq!(refusal, Refusal::NotANetwork);
 /// assert_eq!(refusal.number(), 8);
 /// assert_eq!(refusal.to_string(), "the bytes are no network that Read could keep");
+/// assert_eq!(format!("{refusal:?}"), refusal.to_string());
 /// ```
-#[derive(Clone, Copy, Debug, PartialEq, Eq, Hash)]
+#[derive(Clone, Copy, PartialEq, Eq, Hash)]
 #[non_exhaustive]
 pub enum Refusal {
     /// 1: a line is not whole pairs of uppercase hexadecimal digits ended by
@@ -119,6 +123,12 @@ impl fmt::Display for Refusal {
     }
 }
 
+impl fmt::Debug for Refusal {
+    fn fmt(&self, out: &mut fmt::Formatter<'_>) -> fmt::Result {
+        fmt::Display::fmt(self, out)
+    }
+}
+
 impl Error for Refusal {}
 
 /// Why Read refused, and at which line of the text.
@@ -129,8 +139,12 @@ impl Error for Refusal {}
 /// let refused = Network::read(b"010100010000FD\n00\n").unwrap_err();
 /// assert_eq!(refused.refusal, Refusal::WrongFrame);
 /// assert_eq!(refused.line, 2);
+/// assert_eq!(
+///     format!("{refused:?}"),
+///     "line 2: the kind or the length of a frame is wrong for its position"
+/// );
 /// ```
-#[derive(Clone, Copy, Debug, PartialEq, Eq, Hash)]
+#[derive(Clone, Copy, PartialEq, Eq, Hash)]
 pub struct ReadRefusal {
     /// What is wrong.
     pub refusal: Refusal,
@@ -144,8 +158,12 @@ impl fmt::Display for ReadRefusal {
     }
 }
 
-impl Error for ReadRefusal {
-    fn source(&self) -> Option<&(dyn Error + 'static)> {
-        Some(&self.refusal)
+impl fmt::Debug for ReadRefusal {
+    fn fmt(&self, out: &mut fmt::Formatter<'_>) -> fmt::Result {
+        fmt::Display::fmt(self, out)
     }
 }
+
+// Its words hold the refusal's own: naming that as the source would print them
+// twice.
+impl Error for ReadRefusal {}

@@ -7,9 +7,9 @@ use splicereel::{
 };
 use std::collections::HashSet;
 use std::error::Error;
-use twin::r#gen::{self as towns, Rng, Shape, Spot, damage};
-use twin::lend::{Lengths, Lent as Room};
-use twin::town::block_town;
+use towns::draw::{self, Rng, Shape, Spot, damage};
+use towns::lend::{Lengths, Lent as Room};
+use towns::town::block_town;
 
 /// Block town, its middle loop open one way only.
 fn one_way_loop() -> Network {
@@ -27,10 +27,15 @@ fn lent(room: &mut Room) -> Lent<'_> {
     }
 }
 
+/// The same for the twin, the place at the start.
+fn slices(room: &mut Room) -> (&mut [u32], &mut [u32], &mut [u16]) {
+    (room.best.lend(), room.previous.lend(), room.buffer.lend())
+}
+
 #[test]
 fn each_refusal_of_read_has_its_name() {
     let mut rng = Rng::new(1);
-    let net = towns::town(Shape::Grid, 3, 12).bytes();
+    let town = draw::town(Shape::Grid, 3, 12);
     let names = [
         Refusal::NotDigits,
         Refusal::WrongCheck,
@@ -42,7 +47,7 @@ fn each_refusal_of_read_has_its_name() {
     ];
     for (number, refusal) in (1..).zip(names) {
         for spot in Spot::ALL {
-            let damaged = damage(&mut rng, &net, number, spot).expect("damage");
+            let damaged = damage(&mut rng, &town, number, spot).expect("damage");
             let line = u32::try_from(damaged.refusal.1).expect("a line");
             let mut output = vec![9; damaged.output];
             let refused = Err(ReadRefusal { refusal, line });
@@ -137,7 +142,7 @@ fn refusals_have_numbers_and_words() {
 /// thread's own needs get 16 more.
 #[test]
 fn calls_fit_a_small_stack() {
-    let town = towns::town(Shape::Grid, 11, TOWN_SEGMENTS);
+    let town = draw::town(Shape::Grid, 11, TOWN_SEGMENTS);
     let (text, net, last) = (town.text(), town.bytes(), usize::from(town.nodes) - 1);
     let calls = move || {
         let mut output = vec![0; MAX_NETWORK];
@@ -163,7 +168,7 @@ fn forms_are_alike() {
     for seed in 0..260 {
         let shape = Shape::ALL[seed as usize % Shape::ALL.len()];
         let size = rng.range(0, 60);
-        let town = towns::town(shape, seed, size);
+        let town = draw::town(shape, seed, size);
         let network = Network::read(&town.text()).expect("a network");
         let mut output = vec![0; MAX_NETWORK];
         let written = read(&town.text(), &mut output).expect("a network");
@@ -195,7 +200,9 @@ fn ways(network: &Network, from: usize, to: usize) -> usize {
         let found = route(net, from, to, tolerance, lent(&mut room)).expect("an answer");
         let owned = network.route(from, to, tolerance).expect("an answer");
         ridden += same(&room, found, owned.as_ref());
-        let twins = Room::exact(runs).route(net, from, to, tolerance as u8);
+        let mut room = Room::exact(runs);
+        let (best, previous, buffer) = slices(&mut room);
+        let twins = twin::route(net, from, to, tolerance as u8, best, previous, buffer, 0);
         let twins = twins.expect("an answer").map(|found| found.length);
         assert_eq!(found.map(|found| found.length), twins);
     }
@@ -203,7 +210,9 @@ fn ways(network: &Network, from: usize, to: usize) -> usize {
     let found = least_stress(net, from, to, lent(&mut room)).expect("an answer");
     let owned = network.least_stress(from, to).expect("an answer");
     let level = |tolerance: u8| Level::from_number(tolerance.into());
-    let twins = Room::exact(runs).least_stress(net, from, to);
+    let mut spare = Room::exact(runs);
+    let (best, previous, buffer) = slices(&mut spare);
+    let twins = twin::least_stress(net, from, to, best, previous, buffer, 0);
     let twins = twins
         .expect("an answer")
         .and_then(|(_, tolerance)| level(tolerance));

@@ -15,22 +15,12 @@ pub enum Edition {
 }
 
 impl Edition {
-    /// Every edition that exists.
-    pub const ALL: [Edition; 1] = [Edition::One];
-
     /// The edition that a head's byte names, if it exists.
     #[inline]
     pub fn named(byte: u8) -> Option<Edition> {
         match byte {
             1 => Some(Edition::One),
             _ => None,
-        }
-    }
-
-    /// The byte that names the edition in a head.
-    pub fn byte(self) -> u8 {
-        match self {
-            Edition::One => 1,
         }
     }
 
@@ -110,17 +100,20 @@ pub const TOWN_RUNS: usize = 2 * TOWN_SEGMENTS;
 mod tests {
     use super::{Edition, LARGEST};
 
+    /// Every edition that exists, with the byte that names it.
+    const ALL: [(u8, Edition); 1] = [(1, Edition::One)];
+
     #[test]
     fn bytes_name_the_editions_that_exist() {
         for byte in 0..=255 {
-            let named = Edition::ALL.into_iter().find(|each| each.byte() == byte);
-            assert_eq!(Edition::named(byte), named);
+            let named = ALL.into_iter().find(|each| each.0 == byte);
+            assert_eq!(Edition::named(byte), named.map(|(_, edition)| edition));
         }
     }
 
     #[test]
     fn no_edition_has_larger_networks_than_the_largest() {
-        for edition in Edition::ALL {
+        for (_, edition) in ALL {
             assert!(edition.most_nodes() <= LARGEST.most_nodes());
             assert!(edition.most_segments() <= LARGEST.most_segments());
             assert!(edition.most_feet() <= LARGEST.most_feet());

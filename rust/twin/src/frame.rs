@@ -11,7 +11,7 @@ pub(crate) const HEAD_KIND: u8 = 0x01;
 /// Kind byte of a segment frame.
 pub(crate) const SEGMENT_KIND: u8 = 0x02;
 /// The longest turn lane, in feet.
-pub(crate) const MOST_TURN_FEET: u16 = 2_000;
+const MOST_TURN_FEET: u16 = 2_000;
 
 // Places in a segment frame. An end has its node in two bytes, then its leg;
 // what comes after the length moves with the length's width.

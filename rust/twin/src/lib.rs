@@ -20,33 +20,20 @@
 //! | 11 | scratch or buffer too short |
 //! | 12 | a segment not below S, or a run not below 2S or not open |
 //! | 13 | no movement |
-//!
-//! Besides the calls there are [`edition`], which says what an edition fixes,
-//! [`town`], which builds networks field by field, [`gen`], which draws random
-//! towns and damages them on purpose, [`lend`], which keeps what is lent
-//! between guards, and [`oracle`], a slow second implementation that shares no
-//! code with the calls.
 
 #![forbid(unsafe_code)]
 #![deny(missing_docs)]
 #![allow(clippy::manual_is_multiple_of)] // a run's direction is its parity
 
+mod edition;
 mod frame;
 mod level;
 mod network;
 mod read;
 mod search;
 
-pub mod edition;
-pub mod gen;
-pub mod lend;
-pub mod oracle;
-pub mod program;
-pub mod town;
-
 pub use edition::{MAX_NETWORK, MAX_NODES, MAX_RUNS, MAX_SEGMENTS};
 pub use edition::{TOWN_NODES, TOWN_RUNS, TOWN_SEGMENTS};
-pub use network::{is_network, judge_movement, judge_segment, segment_levels};
+pub use network::{is_network, judge_movement, judge_segment};
 pub use read::read;
-pub use search::{least_stress, route, Found};
-pub use town::{write_text, Town};
+pub use search::{Found, least_stress, route};

@@ -1,7 +1,7 @@
 //! Kept bytes under test 8, their corner index, and the two judgements.
 
 use crate::edition::{MAX_NODES, MAX_RUNS};
-use crate::frame::{checks, End, Head, Segment, HEAD, HEAD_KIND, SEGMENT, SEGMENT_KIND};
+use crate::frame::{End, HEAD, HEAD_KIND, Head, SEGMENT, SEGMENT_KIND, Segment, checks};
 use crate::level::{self, Arrival};
 
 /// Marks a leg that no segment end uses.
@@ -171,19 +171,6 @@ pub fn judge_segment(net: &[u8], s: usize) -> Result<(u8, u8), u8> {
         return Err(12);
     }
     Ok(level::segment(town.segment(2 * s)))
-}
-
-/// Levels and governing measures of all segments, in their order, with one
-/// test of the bytes.
-///
-/// Refusal: 8.
-pub fn segment_levels(net: &[u8]) -> Result<impl Iterator<Item = (u8, u8)> + use<'_>, u8> {
-    let mut corners = Corners::new();
-    let town = Network::test(net, &mut corners).ok_or(8)?;
-    Ok(town
-        .frames
-        .iter()
-        .map(|frame| level::segment(Segment(frame))))
 }
 
 /// Level of the movement from run `p` onto run `q`.

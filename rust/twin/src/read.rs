@@ -1,7 +1,7 @@
 //! Read: a network text into kept bytes.
 
 use crate::edition::{MAX_NODES, MAX_SEGMENTS};
-use crate::frame::{checks, End, Head, Segment, HEAD, HEAD_KIND, SEGMENT, SEGMENT_KIND};
+use crate::frame::{End, HEAD, HEAD_KIND, Head, SEGMENT, SEGMENT_KIND, Segment, checks};
 
 const NEWLINE: u8 = 0x0A;
 
@@ -71,16 +71,16 @@ fn segments(mut rest: &[u8], head: Head, places: &mut [[u8; SEGMENT]]) -> Result
 ///
 /// Gives the frame and the text after its line, or fault 1, 2 or 3.
 fn first_frame<const L: usize>(text: &[u8], kind: u8) -> Result<([u8; L], &[u8]), u8> {
-    if let Some((digits, [NEWLINE, rest @ ..])) = text.split_at_checked(2 * L) {
-        if let Some(frame) = decode(digits) {
-            return if !checks(&frame) {
-                Err(2)
-            } else if frame[0] != kind {
-                Err(3)
-            } else {
-                Ok((frame, rest))
-            };
-        }
+    if let Some((digits, [NEWLINE, rest @ ..])) = text.split_at_checked(2 * L)
+        && let Some(frame) = decode(digits)
+    {
+        return if !checks(&frame) {
+            Err(2)
+        } else if frame[0] != kind {
+            Err(3)
+        } else {
+            Ok((frame, rest))
+        };
     }
     Err(fault(text))
 }

@@ -1,11 +1,14 @@
 //! Every example that the paper prints, through the calls and the oracle.
 
-use twin::gen::Rng;
-use twin::lend::{Lengths, Lent};
-use twin::oracle::{self, Net};
-use twin::town::{block_town, end, Approach, Segment, Town};
-use twin::town::{CENTRELINE, MEDIAN, RESIDENTIAL};
-use twin::{judge_movement, judge_segment, read, Found};
+mod search;
+
+use oracle::Net;
+use search::{least_stress, route};
+use towns::draw::Rng;
+use towns::lend::{Lengths, Lent};
+use towns::town::{Approach, Segment, Town, block_town, end};
+use towns::town::{CENTRELINE, MEDIAN, RESIDENTIAL};
+use twin::{Found, judge_movement, judge_segment, read};
 
 /// Level and measure of one street, checked with the oracle.
 fn street(form: u8, lanes: u8, speed: u8, reach: u8, marks: u8) -> (u8, u8) {
@@ -198,25 +201,25 @@ fn block_town_at_each_tolerance() {
     let net = block_town().bytes();
     for tolerance in 1..=3 {
         let mut lent = lent(2);
-        let answer = lent.route(&net, 0, 2, tolerance);
+        let answer = route(&mut lent, &net, 0, 2, tolerance);
         assert_eq!(answer, Ok(Some(found(3, 1_500, 1))));
         assert_eq!(lent.runs(3), [0, 2, 4]);
         assert!(lent.written(3));
     }
     let mut across = lent(0);
-    let answer = across.route(&net, 0, 2, 4);
+    let answer = route(&mut across, &net, 0, 2, 4);
     assert_eq!(answer, Ok(Some(found(2, 600, 4))));
     assert_eq!(across.runs(2), [0, 4]);
     assert!(across.written(2));
 
     let mut least = lent(5);
-    let answer = least.least_stress(&net, 0, 2);
+    let answer = least_stress(&mut least, &net, 0, 2);
     assert_eq!(answer, Ok(Some((found(3, 1_500, 1), 1))));
     assert_eq!(least.runs(3), [0, 2, 4]);
     assert!(least.written(3));
 
     // Back there is nothing to cross.
-    let answer = lent(0).least_stress(&net, 2, 0);
+    let answer = least_stress(&mut lent(0), &net, 2, 0);
     assert_eq!(answer, Ok(Some((found(2, 600, 1), 1))));
 }
 

@@ -1,10 +1,13 @@
 //! Each refusal, its order among the others, and what it leaves alone.
 
-use twin::gen::{self, damage, damage_kept, Rng, Shape, Spot};
-use twin::lend::{Guarded, Lengths, Lent};
-use twin::oracle::{self, Net};
-use twin::town::{block_town, check, end, head, line, Segment, Town};
-use twin::{is_network, judge_movement, judge_segment, read, Found, MAX_NETWORK};
+mod search;
+
+use oracle::Net;
+use search::{least_stress, route};
+use towns::draw::{self, Rng, Shape, Spot, damage, damage_kept};
+use towns::lend::{Guarded, Lengths, Lent};
+use towns::town::{Approach, Segment, Town, block_town, check, end, head, line, text_of};
+use twin::{Found, MAX_NETWORK, is_network, judge_movement, judge_segment, read};
 
 /// Reads twice, here and with the oracle, and tests what the output keeps.
 fn answer(text: &[u8], room: usize) -> Result<usize, (u8, usize)> {
@@ -106,7 +109,7 @@ fn order_within_a_line() {
     // 3 before 5.
     let mut wrong = twice.frame();
     wrong[0] = 3;
-    gen::seal(&mut wrong);
+    draw::seal(&mut wrong);
     assert_eq!(full(&lines(&[&head1, &first, &wrong])), Err((3, 3)));
     assert_eq!(full(&lines(&[&head1, &first, &head1])), Err((3, 3)));
     // 2 before 3.
@@ -157,7 +160,7 @@ fn numbers_of_segments() {
 fn good_segment() -> Segment {
     path((0, 0), (1, 0))
         .street(1, 1, 25, 30, 0)
-        .at_b(twin::town::Approach::crossing(2, 3, 25).turning(1, 100, 15))
+        .at_b(Approach::crossing(2, 3, 25).turning(1, 100, 15))
 }
 
 /// Whether a town of this one segment is accepted; if not, the number is 4,
@@ -253,11 +256,11 @@ fn damage_meets_its_number() {
     for seed in 0..400 {
         let shape = Shape::ALL[seed as usize % Shape::ALL.len()];
         let segments = rng.range(0, 40);
-        let net = gen::town(shape, seed, segments).bytes();
-        assert!(is_network(&net));
+        let town = draw::town(shape, seed, segments);
+        assert!(is_network(&town.bytes()));
         for number in 1..=7 {
             for spot in Spot::ALL {
-                if let Some(d) = damage(&mut rng, &net, number, spot) {
+                if let Some(d) = damage(&mut rng, &town, number, spot) {
                     assert_eq!(answer(&d.text, d.output), Err(d.refusal), "{}", d.what);
                     met[usize::from(number)] += 1;
                 }
@@ -274,9 +277,9 @@ fn changed_texts() {
     for seed in 0..6_000 {
         let shape = Shape::ALL[seed as usize % Shape::ALL.len()];
         let segments = rng.range(0, 8);
-        let mut text = gen::town(shape, seed, segments).text();
+        let mut text = draw::town(shape, seed, segments).text();
         for _ in 0..rng.range(1, 3) {
-            gen::change(&mut rng, &mut text);
+            draw::change(&mut rng, &mut text);
         }
         let room = rng.pick(&[MAX_NETWORK, MAX_NETWORK, 7, 67, 100, 0]);
         let _ = answer(&text, room);
@@ -291,17 +294,15 @@ fn changed_fields() {
     for seed in 0..20_000 {
         let shape = Shape::ALL[seed as usize % Shape::ALL.len()];
         let segments = rng.range(1, 6);
-        let town = gen::town(shape, seed, segments);
-        let mut frames: Vec<Vec<u8>> = vec![town.head()];
-        frames.extend(town.segments.iter().map(Segment::frame));
+        let town = draw::town(shape, seed, segments);
+        let mut frames = town.frames();
         let place = rng.below(frames.len());
         let frame = &mut frames[place];
         let at = rng.below(frame.len());
         frame[at] = rng.pick(&[0, 1, 2, 3, 4, 5, 7, 8, 12, 13, 60, 61, 85, 86, 255]);
-        gen::seal(frame);
+        draw::seal(frame);
         let kept = frames.concat();
-        let text: Vec<u8> = frames.iter().flat_map(|frame| line(frame)).collect();
-        let number = full(&text).map_or_else(|(number, _)| number, |_| 0);
+        let number = full(&text_of(&frames)).map_or_else(|(number, _)| number, |_| 0);
         answers[usize::from(number)] += 1;
         assert_eq!(is_network(&kept), number == 0);
         assert_eq!(Net::parse(&kept).is_some(), number == 0);
@@ -318,9 +319,10 @@ fn kept_bytes() {
     for seed in 0..5_000 {
         let shape = Shape::ALL[seed as usize % Shape::ALL.len()];
         let segments = rng.range(0, 12);
-        let net = gen::town(shape, seed, segments).bytes();
+        let town = draw::town(shape, seed, segments);
+        let net = town.bytes();
         assert!(is_network(&net) && Net::parse(&net).is_some());
-        let bad = damage_kept(&mut rng, &net);
+        let bad = damage_kept(&mut rng, &town);
         assert!(
             !is_network(&bad) && Net::parse(&bad).is_none(),
             "{net:?} {bad:?}"
@@ -335,15 +337,14 @@ fn kept_bytes() {
 /// 8 from every call, whatever else is wrong, and nothing written.
 fn refused_everywhere(bad: &[u8]) {
     assert_eq!(judge_segment(bad, 5_000), Err(8));
-    assert_eq!(twin::segment_levels(bad).err(), Some(8));
     assert_eq!(judge_movement(bad, 5_000, 0), Err(8));
     let lengths = Lengths {
         place: 9,
         ..Lengths::exact(4)
     };
     let mut lent = Lent::garbage(&mut Rng::new(4), lengths);
-    assert_eq!(lent.route(bad, 9_999, 0, 0), Err(8));
-    assert_eq!(lent.least_stress(bad, 9_999, 0), Err(8));
+    assert_eq!(route(&mut lent, bad, 9_999, 0, 0), Err(8));
+    assert_eq!(least_stress(&mut lent, bad, 9_999, 0), Err(8));
     assert!(lent.untouched());
 }
 
@@ -405,8 +406,8 @@ fn refusals_of_the_routes() {
             place,
         };
         let mut lent = Lent::garbage(&mut Rng::new(6), lengths);
-        assert_eq!(lent.route(&net, from, to, tolerance), Err(one));
-        assert_eq!(lent.least_stress(&net, from, to), Err(other));
+        assert_eq!(route(&mut lent, &net, from, to, tolerance), Err(one));
+        assert_eq!(least_stress(&mut lent, &net, from, to), Err(other));
         assert!(lent.untouched());
     }
 }
@@ -433,18 +434,18 @@ fn no_segments() {
         for place in 0..=buffer {
             let mut lent = at(place);
             for tolerance in 1..=4 {
-                assert_eq!(lent.route(&net, 0, 0, tolerance), Ok(Some(empty)));
-                assert_eq!(lent.route(&net, 1, 1, tolerance), Ok(Some(empty)));
-                assert_eq!(lent.route(&net, 0, 1, tolerance), Ok(None));
+                assert_eq!(route(&mut lent, &net, 0, 0, tolerance), Ok(Some(empty)));
+                assert_eq!(route(&mut lent, &net, 1, 1, tolerance), Ok(Some(empty)));
+                assert_eq!(route(&mut lent, &net, 0, 1, tolerance), Ok(None));
             }
-            assert_eq!(lent.least_stress(&net, 0, 0), Ok(Some((empty, 1))));
-            assert_eq!(lent.least_stress(&net, 0, 1), Ok(None));
-            assert_eq!(lent.route(&net, 0, 2, 1), Err(9));
+            assert_eq!(least_stress(&mut lent, &net, 0, 0), Ok(Some((empty, 1))));
+            assert_eq!(least_stress(&mut lent, &net, 0, 1), Ok(None));
+            assert_eq!(route(&mut lent, &net, 0, 2, 1), Err(9));
             assert!(lent.untouched());
         }
         let mut beyond = at(buffer + 1);
-        assert_eq!(beyond.route(&net, 0, 0, 1), Err(11));
-        assert_eq!(beyond.least_stress(&net, 0, 0), Err(11));
+        assert_eq!(route(&mut beyond, &net, 0, 0, 1), Err(11));
+        assert_eq!(least_stress(&mut beyond, &net, 0, 0), Err(11));
         assert!(beyond.untouched());
     }
 }

@@ -1,10 +1,15 @@
 //! The fast calls against the oracle.
 
-use twin::gen::{self, Rng, Shape};
-use twin::lend::{Lengths, Lent};
-use twin::oracle::Net;
-use twin::town::{block_town, end, Approach, Segment, Town};
-use twin::{judge_movement, judge_segment, segment_levels, Found, TOWN_NODES, TOWN_SEGMENTS};
+mod search;
+
+use oracle::Net;
+use search::{least_stress, route};
+use towns::draw::{self, Rng, Shape};
+use towns::lend::{Lengths, Lent};
+use towns::sizes::{MOST_BYTES, MOST_NODES, MOST_SEGMENTS};
+use towns::town::{Approach, Segment, Town, block_town, end};
+use twin::{Found, MAX_NETWORK, TOWN_NODES, TOWN_SEGMENTS};
+use twin::{is_network, judge_movement, judge_segment};
 
 /// A town under test: its bytes, what the oracle makes of them, and all of its
 /// movements.
@@ -36,13 +41,13 @@ impl Subject {
             let lengths: Vec<Option<u32>> = lengths.iter().map(|nodes| nodes[to]).collect();
             for tolerance in 1..=4 {
                 let mut lent = self.lent(rng);
-                let answer = lent.route(&self.net, from, to, tolerance);
+                let answer = route(&mut lent, &self.net, from, to, tolerance);
                 let answer = answer.expect("no refusal");
                 let length = lengths[usize::from(tolerance) - 1];
                 ridden += self.check(&lent, (from, to, tolerance), answer, length);
             }
             let mut lent = self.lent(rng);
-            let answer = lent.least_stress(&self.net, from, to);
+            let answer = least_stress(&mut lent, &self.net, from, to);
             let answer = answer.expect("no refusal");
             let least = (1..).zip(&lengths).find(|(_, length)| length.is_some());
             let (least, length) = least.map_or((None, None), |(t, length)| (Some(t), *length));
@@ -99,7 +104,7 @@ fn small_towns() {
     for seed in 0..towns {
         let shape = Shape::ALL[seed as usize % Shape::ALL.len()];
         let segments = rng.range(0, 14);
-        let subject = Subject::new(gen::town(shape, seed, segments).bytes());
+        let subject = Subject::new(draw::town(shape, seed, segments).bytes());
         let nodes = subject.oracle.nodes();
         let goals: Vec<usize> = if nodes <= 8 {
             (0..nodes).collect()
@@ -131,7 +136,7 @@ fn middle_towns() {
     for seed in 0..130 {
         let shape = Shape::ALL[seed as usize % Shape::ALL.len()];
         let segments = rng.range(60, 160);
-        let subject = Subject::new(gen::town(shape, 50_000 + seed, segments).bytes());
+        let subject = Subject::new(draw::town(shape, 50_000 + seed, segments).bytes());
         let nodes = subject.oracle.nodes();
         for _ in 0..3 {
             let goals: Vec<usize> = (0..12).map(|_| rng.below(nodes)).collect();
@@ -145,7 +150,7 @@ fn middle_towns() {
 fn full_towns() {
     let mut rng = Rng::new(3);
     for (i, shape) in Shape::ALL.into_iter().enumerate() {
-        let town = gen::town(shape, 90_000 + i as u64, TOWN_SEGMENTS);
+        let town = draw::town(shape, 90_000 + i as u64, TOWN_SEGMENTS);
         let subject = Subject::new(town.bytes());
         let nodes = subject.oracle.nodes();
         let goals: Vec<usize> = (0..20).map(|_| rng.below(nodes)).collect();
@@ -162,18 +167,11 @@ fn judgements() {
     for seed in 0..1_300 {
         let shape = Shape::ALL[seed as usize % Shape::ALL.len()];
         let segments = rng.range(0, 7);
-        let net = gen::town(shape, 70_000 + seed, segments).bytes();
+        let net = draw::town(shape, 70_000 + seed, segments).bytes();
         let oracle = Net::parse(&net).expect("a network");
         for s in 0..oracle.segments() + 2 {
             assert_eq!(judge_segment(&net, s), oracle.segment(s));
         }
-        let all: Vec<_> = segment_levels(&net).expect("a network").map(Ok).collect();
-        assert_eq!(
-            all,
-            (0..oracle.segments())
-                .map(|s| oracle.segment(s))
-                .collect::<Vec<_>>()
-        );
         for p in 0..oracle.runs() + 2 {
             for q in 0..oracle.runs() + 2 {
                 let level = judge_movement(&net, p, q);
@@ -185,41 +183,25 @@ fn judgements() {
     assert!(seen.iter().all(|&n| n > 300), "{seen:?}");
 }
 
-/// Towns have the sizes they are asked for, and use what they should.
+/// What is drawn is a network, as large as a town may be.
 #[test]
-fn shapes() {
+fn drawn_towns() {
+    assert_eq!(
+        [MOST_NODES, MOST_SEGMENTS, MOST_BYTES],
+        [TOWN_NODES, TOWN_SEGMENTS, MAX_NETWORK]
+    );
+    let most = TOWN_SEGMENTS;
     for shape in Shape::ALL {
-        let most = TOWN_SEGMENTS;
         for segments in [0, 1, 2, 3, 4, 10, 100, most - 1, most, 5 * most] {
-            let town = gen::town(shape, 7, segments);
-            assert!(twin::is_network(&town.bytes()), "{shape:?} {segments}");
-            assert_eq!(Shape::from_name(shape.name()), Some(shape));
-            let made = town.segments.len();
-            assert!(made <= segments.min(most));
-            match shape {
-                Shape::Empty => assert_eq!(made, 0),
-                Shape::Single => assert_eq!((town.nodes, made), (1, segments.min(4))),
-                Shape::Tree => assert_eq!(made, segments.min(TOWN_NODES - 1)),
-                Shape::Star if segments % 4 == 0 && segments > 0 => {
-                    assert_eq!(made, segments.min(most));
-                    assert_eq!(2 * made, 8 * usize::from(town.nodes), "all eight legs used");
-                }
-                Shape::Grid | Shape::Ring | Shape::Wild => assert_eq!(made, segments.min(most)),
-                _ => assert!(
-                    segments < 10 || made * 10 >= segments.min(most) * 8,
-                    "{shape:?} {made}"
-                ),
-            }
+            let town = draw::town(shape, 7, segments);
+            assert!(is_network(&town.bytes()), "{shape:?} {segments}");
         }
     }
-    let largest = gen::town(Shape::Grid, 1, TOWN_SEGMENTS);
-    assert_eq!(largest.text().len(), 61_015);
-    assert_ne!(gen::town(Shape::Grid, 1, 50), gen::town(Shape::Grid, 2, 50));
 }
 
 fn go(net: &[u8], from: usize, to: usize, tolerance: u8) -> Option<(Found, Vec<u16>)> {
     let mut lent = Lent::exact(2 * (net.len() - 7) / 30);
-    let answer = lent.route(net, from, to, tolerance);
+    let answer = route(&mut lent, net, from, to, tolerance);
     let found = answer.expect("no refusal")?;
     Some((found, lent.runs(found.count).to_vec()))
 }
@@ -236,7 +218,7 @@ fn from_a_node_to_itself() {
             };
             assert_eq!(go(&net, node, node, tolerance), Some((empty, vec![])));
             let mut lent = Lent::exact(6);
-            let answer = lent.least_stress(&net, node, node);
+            let answer = least_stress(&mut lent, &net, node, node);
             assert_eq!(answer, Ok(Some((empty, 1))));
             assert!(lent.written(0));
         }
@@ -345,8 +327,9 @@ fn longest_route() {
             level: 1
         }
     );
-    assert!(list
-        .iter()
-        .enumerate()
-        .all(|(i, &run)| usize::from(run) == 2 * i));
+    assert!(
+        list.iter()
+            .enumerate()
+            .all(|(i, &run)| usize::from(run) == 2 * i)
+    );
 }

@@ -8,18 +8,18 @@
 use bench::clock::microseconds;
 use bench::{Call, Side, Subject};
 use std::process::ExitCode;
-use twin::gen::{self, Shape};
-use twin::program::{self, number};
-use twin::Town;
+use towns::Town;
+use towns::draw::{self, Shape};
+use towns::program::{self, number};
 
 /// Where the towns and questions come from, as in the benchmark.
 const SEED: u64 = 11;
 
 fn town(shape: &str, segments: usize) -> Option<Town> {
     if shape == "mixed" {
-        return Some(gen::mixed_grid(SEED, segments));
+        return Some(draw::mixed_grid(SEED, segments));
     }
-    Shape::from_name(shape).map(|shape| gen::town(shape, SEED, segments))
+    Shape::from_name(shape).map(|shape| draw::town(shape, SEED, segments))
 }
 
 fn parse(words: &[String]) -> Option<(Side, Call, Town, usize)> {
