@@ -183,7 +183,7 @@ fn texts_that_are_refused() {
         (b"010100010000FD\n010100010000FD\n", "number 3, line 2: this is a head, and only the first line is one"),
         (b"010900010000F5\n", "number 4, line 1: edition 09 is not known: 01 is"),
         (b"010100000000FE\n", "number 4, line 1: 0 nodes: a town has 1 to 1000"),
-        (b"0101000103E912\n", "number 4, line 1: 1001 segments: a town has at most 1000"),
+        (b"0101000103E911\n", "number 4, line 1: 1001 segments: a town has at most 1000"),
         (first, "number 5, line 2: the text ends after 0 of the 3 segments that the head counts: lines are missing"),
     ] {
         says(&["check", "-"], text, &format!("standard input: refused, {due}"));

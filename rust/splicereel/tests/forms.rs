@@ -68,7 +68,7 @@ fn each_refusal_of_read_has_its_name() {
 #[test]
 fn each_refusal_of_the_judges_has_its_name() {
     let network = one_way_loop();
-    let net = network.bytes();
+    let net = network.as_bytes();
     assert_eq!(judge_segment(&net[1..], 0), Err(Refusal::NotANetwork));
     assert_eq!(judge_segment(net, 3), Err(Refusal::NoSuchRun));
     assert_eq!(network.judge_segment(usize::MAX), Err(Refusal::NoSuchRun));
@@ -83,7 +83,7 @@ fn each_refusal_of_the_judges_has_its_name() {
 #[test]
 fn each_refusal_of_the_searches_has_its_name() {
     let network = one_way_loop();
-    let net = network.bytes();
+    let net = network.as_bytes();
     let short = Lengths {
         previous: 5,
         ..Lengths::exact(6)
@@ -112,8 +112,8 @@ fn each_refusal_of_the_searches_has_its_name() {
         assert_eq!(answer, Err(least));
         assert!(room.untouched());
     }
-    assert_eq!(network.route(0, 3, 1), Err(Refusal::NoSuchNode));
-    assert_eq!(network.route(0, 2, 5), Err(Refusal::NoSuchTolerance));
+    assert_eq!(network.route(0, 3, Level::One), Err(Refusal::NoSuchNode));
+    assert_eq!("5".parse::<Level>(), Err(Refusal::NoSuchTolerance));
     assert_eq!(network.least_stress(3, 0), Err(Refusal::NoSuchNode));
 }
 
@@ -135,7 +135,7 @@ fn refusals_have_numbers_and_words() {
         refused.to_string(),
         "line 1: the kind or the length of a frame is wrong for its position"
     );
-    assert!(refused.source().is_some());
+    assert!(refused.source().is_none(), "its words would come twice");
 }
 
 /// A call about a town takes less than 64 KiB of stack, as the header says; the
@@ -172,12 +172,12 @@ fn forms_are_alike() {
         let network = Network::read(&town.text()).expect("a network");
         let mut output = vec![0; MAX_NETWORK];
         let written = read(&town.text(), &mut output).expect("a network");
-        assert_eq!(&output[..written], network.bytes());
+        assert_eq!(&output[..written], network.as_bytes());
         assert_eq!(network.nodes(), usize::from(town.nodes));
         assert_eq!(network.segments(), town.segments.len());
         assert_eq!(Network::from_bytes(town.bytes()).as_ref(), Ok(&network));
         for segment in 0..network.segments() {
-            let (level, measure) = twin::judge_segment(network.bytes(), segment).expect("one");
+            let (level, measure) = twin::judge_segment(network.as_bytes(), segment).expect("one");
             let judged = network.judge_segment(segment).expect("one");
             assert_eq!(judged.level.number(), usize::from(level));
             assert_eq!(judged.measure.number(), usize::from(measure));
@@ -193,18 +193,18 @@ fn forms_are_alike() {
 /// Every tolerance and the least, in both forms; the number of routes that are
 /// not empty.
 fn ways(network: &Network, from: usize, to: usize) -> usize {
-    let (net, runs) = (network.bytes(), 2 * network.segments());
+    let (net, runs) = (network.as_bytes(), 2 * network.segments());
     let mut ridden = 0;
-    for tolerance in 1..=4 {
+    for tolerance in Level::ALL {
         let mut room = Room::exact(runs);
-        let found = route(net, from, to, tolerance, lent(&mut room)).expect("an answer");
+        let found = route(net, from, to, tolerance.number(), lent(&mut room)).expect("an answer");
         let owned = network.route(from, to, tolerance).expect("an answer");
         ridden += same(&room, found, owned.as_ref());
         let mut room = Room::exact(runs);
         let (best, previous, buffer) = slices(&mut room);
         let twins = twin::route(net, from, to, tolerance as u8, best, previous, buffer, 0);
         let twins = twins.expect("an answer").map(|found| found.length);
-        assert_eq!(found.map(|found| found.length), twins);
+        assert_eq!(found.map(|found| found.feet), twins);
     }
     let mut room = Room::exact(runs);
     let found = least_stress(net, from, to, lent(&mut room)).expect("an answer");
@@ -228,7 +228,7 @@ fn same(room: &Room, found: Option<Found>, owned: Option<&splicereel::Route>) ->
         assert!(found.is_none() && owned.is_none());
         return 0;
     };
-    assert_eq!((found.length, found.level), (owned.length(), owned.level()));
+    assert_eq!((found.feet, found.level), (owned.feet(), owned.level()));
     let runs: Vec<Run> = room
         .runs(found.count)
         .iter()

@@ -1,0 +1,11 @@
+//! Pictures of a town: as a map in SVG, or in DOT for Graphviz.
+//!
+//! A picture knows nothing of files and calls: it shows a [`scene::Scene`].
+
+pub mod dot;
+mod geometry;
+mod ink;
+mod labels;
+mod map;
+pub mod scene;
+pub mod svg;
