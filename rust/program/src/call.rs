@@ -67,7 +67,9 @@ impl Command {
             Command::Draw => {
                 "Streets are coloured by level; with FROM, TO and TOLERANCE the route is drawn too.\nWhere the table gives x and y for its nodes, the picture is SVG; otherwise it is DOT, which Graphviz lays out:\n  splicereel draw FILE | dot -Tsvg > town.svg\n"
             }
-            Command::Text => "The table is checked on the way: what comes out is a text that Read accepts.\n",
+            Command::Text => {
+                "The table is checked on the way: what comes out is a text that Read accepts.\n"
+            }
         }
     }
 
@@ -112,7 +114,12 @@ pub enum Request {
 /// Reads the words after the program's name.
 pub fn read(words: Vec<OsString>) -> Result<Request, Fault> {
     let parted = part(words);
-    let option = |names: [&str; 2]| parted.options.iter().any(|option| names.contains(&option.as_str()));
+    let option = |names: [&str; 2]| {
+        parted
+            .options
+            .iter()
+            .any(|option| names.contains(&option.as_str()))
+    };
     let mut plain = parted.plain.into_iter();
     let command = plain.next().map(command).transpose()?;
     if option(["--help", "-h"]) {
@@ -121,25 +128,36 @@ pub fn read(words: Vec<OsString>) -> Result<Request, Fault> {
     if option(["--version", "-V"]) {
         return Ok(Request::Version);
     }
-    let Some(command) = command else {
-        return Err(Fault::new(match parted.options.first() {
-            Some(option) => unknown_option(option),
-            None => format!("a command is missing: {}; see splicereel --help", names()),
-        }));
-    };
     if let Some(option) = parted.options.iter().find(|option| *option != "--json") {
         return Err(Fault::new(unknown_option(option)));
     }
+    let Some(command) = command else {
+        return Err(Fault::new(format!(
+            "a command is missing: {}; see splicereel --help",
+            names()
+        )));
+    };
     let json = !parted.options.is_empty();
     if json && !command.has_json() {
-        return Err(Fault::new(format!("{} has no --json; expected: {}", command.name(), command.line())));
+        return Err(Fault::new(format!(
+            "{} has no --json; expected: {}",
+            command.name(),
+            command.line()
+        )));
     }
     let file = plain.next().ok_or_else(|| miscounted(command, 0))?;
-    let words: Vec<String> = plain.map(|word| word.to_string_lossy().into_owned()).collect();
+    let words: Vec<String> = plain
+        .map(|word| word.to_string_lossy().into_owned())
+        .collect();
     if !command.takes(words.len()) {
         return Err(miscounted(command, 1 + words.len()));
     }
-    Ok(Request::Do(Call { command, json, file, words }))
+    Ok(Request::Do(Call {
+        command,
+        json,
+        file,
+        words,
+    }))
 }
 
 /// The words that are options, and the others.
@@ -151,13 +169,17 @@ struct Parted {
 /// A word that begins with `-` is an option, but for `-` itself, numbers, and
 /// everything after `--`.
 fn part(words: Vec<OsString>) -> Parted {
-    let mut parted = Parted { options: vec![], plain: vec![] };
+    let mut parted = Parted {
+        options: vec![],
+        plain: vec![],
+    };
     let mut ended = false;
     for word in words {
         let shown = word.to_string_lossy();
-        let dashed = shown.starts_with('-') && shown.len() > 1;
-        let number = shown[1.min(shown.len())..].starts_with(|letter: char| letter.is_ascii_digit());
-        if ended || !dashed || number {
+        let dashed = shown.strip_prefix('-').filter(|rest| !rest.is_empty());
+        let option =
+            dashed.is_some_and(|rest| !rest.starts_with(|letter: char| letter.is_ascii_digit()));
+        if ended || !option {
             parted.plain.push(word);
         } else if shown == "--" {
             ended = true;
@@ -174,17 +196,27 @@ fn names() -> String {
 
 fn command(word: OsString) -> Result<Command, Fault> {
     let word = word.to_string_lossy();
-    let known = Command::ALL.into_iter().find(|command| command.name() == word);
+    let known = Command::ALL
+        .into_iter()
+        .find(|command| command.name() == word);
     known.ok_or_else(|| {
         let near = meant(&word, Command::ALL.map(Command::name));
-        Fault::new(format!("{} is no command; expected one of {}{near}", quoted(&word), names()))
+        Fault::new(format!(
+            "{} is no command; expected one of {}{near}",
+            quoted(&word),
+            names()
+        ))
     })
 }
 
 fn unknown_option(option: &str) -> String {
     const OPTIONS: [&str; 3] = ["--json", "--help", "--version"];
     let near = meant(option, OPTIONS);
-    format!("{} is no option; expected one of {}{near}", quoted(option), OPTIONS.join(", "))
+    format!(
+        "{} is no option; expected one of {}{near}",
+        quoted(option),
+        OPTIONS.join(", ")
+    )
 }
 
 fn miscounted(command: Command, words: usize) -> Fault {
@@ -193,20 +225,32 @@ fn miscounted(command: Command, words: usize) -> Fault {
         1 => "only a file is given".to_string(),
         _ => format!("{words} words are given"),
     };
-    Fault::new(format!("{}: {how}; expected: {}", command.name(), command.line()))
+    Fault::new(format!(
+        "{}: {how}; expected: {}",
+        command.name(),
+        command.line()
+    ))
 }
 
 /// The help on a command, or on all of them.
 pub fn help(command: Option<Command>) -> String {
-    const FILES: &str = "FILE is a network text or a town's table (Markdown, as in towns/); - is standard input.\n";
+    const FILES: &str =
+        "FILE is a network text or a town's table (Markdown, as in towns/); - is standard input.\n";
     const STATUS: &str = "Exit status: 0 answered, 1 none, 2 refused or wrong call.\n";
     match command {
         Some(command) => format!(
             "{}\n\n{}: {}.\n\n{}\n{FILES}{STATUS}",
-            command.line(), command.name(), command.about(), command.more()
+            command.line(),
+            command.name(),
+            command.about(),
+            command.more()
         ),
         None => {
-            let width = Command::ALL.map(|command| command.line().len()).into_iter().max().unwrap_or(0);
+            let width = Command::ALL
+                .map(|command| command.line().len())
+                .into_iter()
+                .max()
+                .unwrap_or(0);
             let lines: String = Command::ALL
                 .iter()
                 .map(|command| format!("  {:<width$}  {}\n", command.line(), command.about()))

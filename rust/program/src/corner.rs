@@ -31,7 +31,11 @@ pub struct Corner {
 impl Corner {
     /// The corner between two runs of a route.
     pub fn of(town: &Town, first: Run, second: Run) -> Result<Corner, Fault> {
-        let asked = Asked { town, first, second };
+        let asked = Asked {
+            town,
+            first,
+            second,
+        };
         let level = asked.judge(&[])?;
         let above = |changed: &[Change]| Ok(level > Level::One && asked.judge(changed)? == level);
         Ok(Corner {
@@ -48,7 +52,11 @@ impl Corner {
     /// What decided, with what was surveyed.
     pub fn words(&self) -> String {
         match (self.crossing, self.turn_lane) {
-            (true, true) => format!("crossing and turn lane: {}; {}", self.crossed(), self.turned()),
+            (true, true) => format!(
+                "crossing and turn lane: {}; {}",
+                self.crossed(),
+                self.turned()
+            ),
             (true, false) => format!("crossing: {}", self.crossed()),
             (false, true) => format!("turn lane: {}", self.turned()),
             (false, false) if self.right_hand_exit => "right-hand exit".into(),
@@ -59,7 +67,10 @@ impl Corner {
     /// The names of what decided.
     pub fn deciders(&self) -> Vec<&'static str> {
         let both = [(self.crossing, "crossing"), (self.turn_lane, "turn lane")];
-        both.into_iter().filter(|(decides, _)| *decides).map(|(_, name)| name).collect()
+        both.into_iter()
+            .filter(|(decides, _)| *decides)
+            .map(|(_, name)| name)
+            .collect()
     }
 
     fn surveyed(&self, field: usize) -> u32 {
@@ -73,7 +84,11 @@ impl Corner {
             1 => "signal".into(),
             _ => {
                 let (lanes, speed) = (self.surveyed(CROSSED), self.surveyed(CROSSED_SPEED));
-                let lanes = if lanes == 1 { "1 lane".into() } else { format!("{lanes} lanes") };
+                let lanes = if lanes == 1 {
+                    "1 lane".into()
+                } else {
+                    format!("{lanes} lanes")
+                };
                 format!("{lanes} at {speed} mph, {}", name(&CONTROLS, control))
             }
         }
@@ -81,7 +96,10 @@ impl Corner {
 
     fn turned(&self) -> String {
         let (feet, speed) = (self.surveyed(TURN_LENGTH), self.surveyed(TURN_SPEED));
-        format!("{feet} ft at {speed} mph, {}", name(&TURNS, self.surveyed(TURN)))
+        format!(
+            "{feet} ft at {speed} mph, {}",
+            name(&TURNS, self.surveyed(TURN))
+        )
     }
 }
 

@@ -19,7 +19,9 @@ pub fn picture(town: &Town, asked: Option<&Asked<'_>>) -> Result<String, Fault> 
 
 fn scene(town: &Town, asked: Option<&Asked<'_>>) -> Result<Scene, Fault> {
     let nodes = (0..town.network.nodes()).map(|node| Node {
-        name: town.place(node).map_or_else(|| node.to_string(), str::to_string),
+        name: town
+            .place(node)
+            .map_or_else(|| node.to_string(), str::to_string),
         place: town.map_place(node),
     });
     let streets: Result<Vec<Street>, Fault> = (0..town.network.segments())

@@ -55,10 +55,16 @@ fn not_digits(line: &[u8], number: usize) -> Option<String> {
         return Some("the file is in UTF-16: save it as plain text, a byte for each digit".into());
     }
     if number == 1 && line.starts_with(b"\xEF\xBB\xBF") {
-        return Some("a byte order mark (EF BB BF) stands before the first digit: save the file without one".into());
+        return Some(
+            "a byte order mark (EF BB BF) stands before the first digit: save the file without one"
+                .into(),
+        );
     }
     if ended && digits.ends_with(b"\r") {
-        return Some("a carriage return stands before the line feed: save the file with line feeds alone".into());
+        return Some(
+            "a carriage return stands before the line feed: save the file with line feeds alone"
+                .into(),
+        );
     }
     if digits.is_empty() {
         return Some("the line is empty: take it out".into());
@@ -70,7 +76,9 @@ fn not_digits(line: &[u8], number: usize) -> Option<String> {
         return Some(cut(digits.len()));
     }
     let count = digits.len();
-    (count % 2 == 1).then(|| format!("the line has {count} digits: two make a byte, so one is missing or too many"))
+    (count % 2 == 1).then(|| {
+        format!("the line has {count} digits: two make a byte, so one is missing or too many")
+    })
 }
 
 fn is_digit(byte: u8) -> bool {
@@ -100,7 +108,9 @@ fn cut(digits: usize) -> String {
 fn wrong_check(frame: &[u8]) -> Option<String> {
     let (check, body) = frame.split_last()?;
     let due = segment::check(body);
-    Some(format!("the check is {check:02X}, and the bytes before it need {due:02X}: one of the digits is wrong"))
+    Some(format!(
+        "the check is {check:02X}, and the bytes before it need {due:02X}: one of the digits is wrong"
+    ))
 }
 
 fn wrong_frame(frame: Option<Vec<u8>>, number: usize) -> Option<String> {
@@ -113,8 +123,14 @@ fn wrong_frame(frame: Option<Vec<u8>>, number: usize) -> Option<String> {
     };
     let (first, length) = (*frame.first()?, frame.len());
     if first == kind {
-        let how = if length < bytes { "missing" } else { "too many" };
-        return Some(format!("the line has {length} bytes, and {what} has {bytes}: digits are {how}"));
+        let how = if length < bytes {
+            "missing"
+        } else {
+            "too many"
+        };
+        return Some(format!(
+            "the line has {length} bytes, and {what} has {bytes}: digits are {how}"
+        ));
     }
     Some(match (number, first) {
         (1, SEGMENT_KIND) => "this is a segment, and the first line must be a head".into(),
@@ -140,7 +156,8 @@ pub fn counts(nodes: usize, segments: usize) -> Option<String> {
     if nodes == 0 || nodes > MAX_NODES {
         return Some(format!("{nodes} nodes: a town has 1 to {MAX_NODES}"));
     }
-    (segments > MAX_SEGMENTS).then(|| format!("{segments} segments: a town has at most {MAX_SEGMENTS}"))
+    (segments > MAX_SEGMENTS)
+        .then(|| format!("{segments} segments: a town has at most {MAX_SEGMENTS}"))
 }
 
 /// Nodes and segments that the head counts.

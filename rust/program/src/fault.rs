@@ -67,11 +67,13 @@ pub fn quoted(word: &str) -> String {
     format!("'{shown}{more}'")
 }
 
-/// The character, or a mark in place of one that a page cannot show.
+/// The character, or a mark in place of one that a page cannot show in its
+/// line: control characters, separators of lines, and those that turn the
+/// direction of what comes after them.
 pub fn printable(character: char) -> char {
-    if character.is_control() {
-        '\u{FFFD}'
-    } else {
-        character
+    match character {
+        '\u{2028}'..='\u{202E}' | '\u{2066}'..='\u{2069}' => '\u{FFFD}',
+        _ if character.is_control() => '\u{FFFD}',
+        _ => character,
     }
 }

@@ -21,7 +21,9 @@ pub fn read(name: &OsStr) -> Result<Vec<u8>, Fault> {
     let bytes = bytes.map_err(|error| Fault::new(format!("cannot be read: {error}")))?;
     if bytes.len() as u64 > MOST {
         let most = MOST >> 20;
-        return Err(Fault::new(format!("has more than {most} MiB: no town's file is so large")));
+        return Err(Fault::new(format!(
+            "has more than {most} MiB: no town's file is so large"
+        )));
     }
     Ok(bytes)
 }

@@ -51,5 +51,8 @@ pub fn json(town: &Town) -> Result<Vec<(&'static str, Json)>, Fault> {
             ]))
         })
         .collect();
-    Ok(vec![("answer", Json::text("levels")), ("segments", Json::List(rows?))])
+    Ok(vec![
+        ("answer", Json::text("levels")),
+        ("segments", Json::List(rows?)),
+    ])
 }

@@ -65,7 +65,11 @@ fn main() -> ExitCode {
 }
 
 fn answered(answer: String) -> Said {
-    Said { answer, fault: None, status: ANSWERED }
+    Said {
+        answer,
+        fault: None,
+        status: ANSWERED,
+    }
 }
 
 /// Writes an answer to standard output; the status, or another where it cannot
@@ -90,12 +94,22 @@ fn complain(words: &str) {
 /// Makes a call.
 fn run(call: &Call) -> Said {
     let fault = match answer(call) {
-        Ok((answer, status)) => return Said { answer, fault: None, status },
+        Ok((answer, status)) => {
+            return Said {
+                answer,
+                fault: None,
+                status,
+            };
+        }
         Err(fault) => fault,
     };
     let file = file_name(&call.file);
     Said {
-        answer: if call.json { refusal(&file, &fault).line() } else { String::new() },
+        answer: if call.json {
+            refusal(&file, &fault).line()
+        } else {
+            String::new()
+        },
         fault: Some(format!("{file}: {}", fault.sentence())),
         status: REFUSED,
     }
@@ -105,7 +119,11 @@ fn run(call: &Call) -> Said {
 fn file_name(file: &OsStr) -> String {
     match file == "-" {
         true => "standard input".into(),
-        false => file.to_string_lossy().chars().map(fault::printable).collect(),
+        false => file
+            .to_string_lossy()
+            .chars()
+            .map(fault::printable)
+            .collect(),
     }
 }
 
@@ -128,10 +146,14 @@ fn answer(call: &Call) -> Result<(String, u8), Fault> {
         return Ok((String::from_utf8_lossy(&text).into_owned(), ANSWERED));
     }
     // A word that asks nothing is told before the file is read.
-    let limit = call.words.last().map(|word| Limit::read(word)).transpose()?;
+    let limit = call
+        .words
+        .last()
+        .map(|word| Limit::read(word))
+        .transpose()?;
     let town = Town::read(&call.file)?;
     let asked = match (&call.words[..], limit) {
-        ([from, to, _], Some(limit)) => Some(Asked::new(&town, from, to, limit)?),
+        ([from, to, _], Some(limit)) => Some(Asked::new(&town, [from, to], limit)?),
         _ => None,
     };
     let status = match &asked {
@@ -160,7 +182,10 @@ fn check(call: &Call, town: &Town) -> String {
     let network = &town.network;
     format!(
         "{}: in order, edition {:02}, nodes {}, segments {}\n",
-        file_name(&call.file), network.edition(), network.nodes(), network.segments()
+        file_name(&call.file),
+        network.edition(),
+        network.nodes(),
+        network.segments()
     )
 }
 

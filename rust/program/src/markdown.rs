@@ -63,7 +63,10 @@ fn table(block: &[(usize, &str)]) -> Result<Table, Fault> {
 /// The cells between bars; `\|` is a bar within a cell.
 fn row(line: usize, text: &str) -> Result<Row, Fault> {
     let inner = text.strip_prefix('|').unwrap_or(text);
-    let Some(inner) = inner.strip_suffix('|').filter(|inner| !inner.ends_with('\\')) else {
+    let Some(inner) = inner
+        .strip_suffix('|')
+        .filter(|inner| !inner.ends_with('\\'))
+    else {
         let what = format!("the row does not end with a bar, |: {}", quoted(text));
         return Err(Fault::at(line, what));
     };
@@ -103,7 +106,10 @@ impl Table {
                 return Err(Fault::at(row.line, what));
             }
             if row.cells[0] != number.to_string() {
-                let what = format!("the row is numbered {}, and {number} is due", quoted(&row.cells[0]));
+                let what = format!(
+                    "the row is numbered {}, and {number} is due",
+                    quoted(&row.cells[0])
+                );
                 return Err(Fault::at(row.line, what));
             }
         }

@@ -21,7 +21,12 @@ impl Page {
     pub fn new(columns: &[(&str, Side)]) -> Page {
         Page {
             sides: columns.iter().map(|(_, side)| *side).collect(),
-            rows: vec![columns.iter().map(|(name, _)| (*name).to_string()).collect()],
+            rows: vec![
+                columns
+                    .iter()
+                    .map(|(name, _)| (*name).to_string())
+                    .collect(),
+            ],
         }
     }
 

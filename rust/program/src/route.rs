@@ -6,7 +6,7 @@ use crate::json::Json;
 use crate::near::meant;
 use crate::page::{Page, Side, feet_and_miles, miles};
 use crate::segment::LENGTH;
-use crate::town::Town;
+use crate::town::{Town, unforeseen};
 use splicereel::{Direction, Level, Route, Run};
 use std::fmt::Write as _;
 
@@ -25,7 +25,10 @@ impl Limit {
             Err(_) if word == "least" => Ok(Limit::Least),
             Err(_) => {
                 let near = meant(word, ["least"]);
-                let words = format!("TOLERANCE is {}, and must be 1, 2, 3, 4 or least{near}", quoted(word));
+                let words = format!(
+                    "TOLERANCE is {}, and must be 1, 2, 3, 4 or least{near}",
+                    quoted(word)
+                );
                 Err(Fault::new(words))
             }
         }
@@ -45,8 +48,8 @@ pub struct Asked<'t> {
 
 impl<'t> Asked<'t> {
     /// Asks for a route between two nodes, named or numbered.
-    pub fn new(town: &'t Town, from: &str, to: &str, limit: Limit) -> Result<Asked<'t>, Fault> {
-        let (from, to) = (town.node(from)?, town.node(to)?);
+    pub fn new(town: &'t Town, words: [&str; 2], limit: Limit) -> Result<Asked<'t>, Fault> {
+        let (from, to) = (town.node(words[0])?, town.node(words[1])?);
         let found = match limit {
             Limit::Least => town.network.least_stress(from, to),
             Limit::Within(level) => {
@@ -54,15 +57,25 @@ impl<'t> Asked<'t> {
                 route.map(|found| found.map(|route| (route, level)))
             }
         };
-        let found = found.map_err(|refusal| town.refused(refusal, from, to))?;
-        Ok(Asked { town, from, to, limit, found })
+        let asked = [(from, words[0]), (to, words[1])];
+        let found = found.map_err(|refusal| town.refused(refusal, asked))?;
+        Ok(Asked {
+            town,
+            from,
+            to,
+            limit,
+            found,
+        })
     }
 
     /// The least tolerance that has a route where none was found, and its
     /// length.
     fn instead(&self) -> Result<Option<(Level, u32)>, Fault> {
-        let least = self.town.network.least_stress(self.from, self.to);
-        let least = least.map_err(|refusal| self.town.refused(refusal, self.from, self.to))?;
+        let least = self
+            .town
+            .network
+            .least_stress(self.from, self.to)
+            .map_err(unforeseen)?;
         Ok(least.map(|(route, level)| (level, route.feet())))
     }
 
@@ -72,8 +85,16 @@ impl<'t> Asked<'t> {
             Some(place) => format!("{place} (node {node})"),
             None => format!("node {node}"),
         };
-        let found = if self.found.is_some() { "found" } else { "none" };
-        format!("Route from {} to {}: {found}", name(self.from), name(self.to))
+        let found = if self.found.is_some() {
+            "found"
+        } else {
+            "none"
+        };
+        format!(
+            "Route from {} to {}: {found}",
+            name(self.from),
+            name(self.to)
+        )
     }
 
     /// The tolerance as a page and a picture say it.
@@ -89,7 +110,9 @@ impl<'t> Asked<'t> {
     pub fn caption(&self) -> String {
         let (from, to) = (self.town.node_name(self.from), self.town.node_name(self.to));
         let answer = match &self.found {
-            Some((route, _)) => format!("{}, level {}", feet_and_miles(route.feet()), route.level()),
+            Some((route, _)) => {
+                format!("{}, level {}", feet_and_miles(route.feet()), route.level())
+            }
             None => "no route".into(),
         };
         format!("{from} to {to}, tolerance {}: {answer}", self.tolerance())
@@ -147,7 +170,13 @@ impl<'t> Asked<'t> {
         for step in self.steps(route)? {
             if let Some(corner) = &step.before {
                 let at = format!("  corner at {}", self.town.node_name(corner.node));
-                page.row(vec!["".into(), at, "".into(), corner.level.to_string(), corner.words()]);
+                page.row(vec![
+                    "".into(),
+                    at,
+                    "".into(),
+                    corner.level.to_string(),
+                    corner.words(),
+                ]);
             }
             page.row(self.run_row(&step)?);
         }
@@ -176,8 +205,14 @@ impl<'t> Asked<'t> {
         let before = [None].into_iter().chain(runs.iter().copied().map(Some));
         let mut steps = Vec::with_capacity(runs.len());
         for (number, (before, &run)) in (1..).zip(before.zip(runs)) {
-            let before = before.map(|before| Corner::of(self.town, before, run)).transpose()?;
-            steps.push(Step { number, before, run });
+            let before = before
+                .map(|before| Corner::of(self.town, before, run))
+                .transpose()?;
+            steps.push(Step {
+                number,
+                before,
+                run,
+            });
         }
         Ok(steps)
     }
@@ -197,7 +232,10 @@ impl<'t> Asked<'t> {
             Some((route, level)) => fields.extend(self.found_json(route, *level)?),
             None => {
                 let least = self.instead()?.map(|(level, feet)| {
-                    vec![("tolerance", Json::number(level)), ("feet", Json::number(feet))]
+                    vec![
+                        ("tolerance", Json::number(level)),
+                        ("feet", Json::number(feet)),
+                    ]
                 });
                 fields.push(("answer", Json::text("none")));
                 fields.push(("least", least.map_or(Json::Null, Json::Object)));
@@ -206,9 +244,14 @@ impl<'t> Asked<'t> {
         Ok(fields)
     }
 
-    fn found_json(&self, route: &Route, tolerance: Level) -> Result<Vec<(&'static str, Json)>, Fault> {
+    fn found_json(
+        &self,
+        route: &Route,
+        tolerance: Level,
+    ) -> Result<Vec<(&'static str, Json)>, Fault> {
         let steps = self.steps(route)?;
-        let runs: Result<Vec<Json>, Fault> = steps.iter().map(|step| self.run_json(step.run)).collect();
+        let runs: Result<Vec<Json>, Fault> =
+            steps.iter().map(|step| self.run_json(step.run)).collect();
         let corners = steps.iter().filter_map(|step| step.before.as_ref());
         Ok(vec![
             ("answer", Json::text("found")),
@@ -217,7 +260,10 @@ impl<'t> Asked<'t> {
             ("miles", Json::Number(miles(route.feet()))),
             ("level", Json::number(route.level())),
             ("runs", Json::List(runs?)),
-            ("corners", Json::List(corners.map(|corner| self.corner_json(corner)).collect())),
+            (
+                "corners",
+                Json::List(corners.map(|corner| self.corner_json(corner)).collect()),
+            ),
         ])
     }
 

@@ -84,7 +84,9 @@ impl Segment {
         let mut segment = Segment::default();
         for (field, number) in segment.0.iter_mut().enumerate() {
             let digits = frame.get(bytes(field)).unwrap_or(&[]);
-            *number = digits.iter().fold(0, |sum, &byte| sum << 8 | u32::from(byte));
+            *number = digits
+                .iter()
+                .fold(0, |sum, &byte| sum << 8 | u32::from(byte));
         }
         segment
     }
@@ -210,7 +212,11 @@ impl Rule {
         } else {
             format!("{low} to {high}")
         };
-        format!("{} is {number} and must be {due}{}", name(self.field), self.when)
+        format!(
+            "{} is {number} and must be {due}{}",
+            name(self.field),
+            self.when
+        )
     }
 }
 
@@ -242,7 +248,13 @@ pub fn taken(segments: &[Segment]) -> Option<Taken> {
             .take_while(|&(s, other, _)| s + 1 < segments.len() || other < end)
             .find_map(|(s, end, other)| (other == at).then_some((s, end)))?;
         let (node, leg) = at;
-        Some(Taken { end, node, leg, by, by_end })
+        Some(Taken {
+            end,
+            node,
+            leg,
+            by,
+            by_end,
+        })
     })
 }
 
@@ -250,10 +262,14 @@ impl Taken {
     /// What to mend, where `own` says that the segment's own other end has the
     /// leg, and `by` and `node` name the segment and the node.
     pub fn words(&self, own: bool, by: &str, node: &str) -> String {
-        let Taken { end, leg, by_end, .. } = self;
+        let Taken {
+            end, leg, by_end, ..
+        } = self;
         match own {
             true => format!("both ends have leg {leg} of {node}"),
-            false => format!("the {end} end has leg {leg} of {node}, which the {by_end} end of {by} has already"),
+            false => format!(
+                "the {end} end has leg {leg} of {node}, which the {by_end} end of {by} has already"
+            ),
         }
     }
 }

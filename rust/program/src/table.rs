@@ -5,7 +5,9 @@ use crate::fault::{Fault, quoted};
 use crate::markdown::{self, Row, Table};
 use crate::near::meant;
 use crate::segment::{self, Segment};
-use crate::segment::{A_LEG, A_NODE, B_LEG, B_NODE, FORM, LANES, LENGTH, MARKS, REACH, SPEED, WAYS};
+use crate::segment::{
+    A_LEG, A_NODE, B_LEG, B_NODE, FORM, LANES, LENGTH, MARKS, REACH, SPEED, WAYS,
+};
 use crate::segment::{AT_A, AT_B, CONTROL, CROSSED, CROSSED_SPEED, TURN, TURN_LENGTH, TURN_SPEED};
 use splicereel::{Network, ReadRefusal, Refusal};
 
@@ -48,10 +50,18 @@ pub fn read(file: &[u8]) -> Result<Described, Fault> {
     heading(segments, &SEGMENTS)?;
     let (node_rows, segment_rows) = (nodes.numbered()?, segments.numbered()?);
     let map = with_map.then(|| node_rows.iter().map(place).collect());
-    let streets = segment_rows.iter().map(street).collect::<Result<Vec<_>, Fault>>()?;
+    let streets = segment_rows
+        .iter()
+        .map(street)
+        .collect::<Result<Vec<_>, Fault>>()?;
     let text = text(node_rows.len(), &streets);
     let network = Network::read(&text).map_err(|refused| {
-        let rows = Rows { nodes, segments, places: node_rows, streets: &streets };
+        let rows = Rows {
+            nodes,
+            segments,
+            places: node_rows,
+            streets: &streets,
+        };
         rows.fault(refused)
     })?;
     let second = |rows: &[Row]| rows.iter().map(|row| row.cells[1].clone()).collect();
@@ -80,15 +90,22 @@ fn utf8(file: &[u8]) -> Result<&str, Fault> {
 
 /// The one table whose heading begins with this word.
 fn the_table<'t>(tables: &'t [Table], first: &str) -> Result<&'t Table, Fault> {
-    let mut named = tables.iter().filter(|table| table.heading.cells[0] == first);
+    let mut named = tables
+        .iter()
+        .filter(|table| table.heading.cells[0] == first);
     match (named.next(), named.next()) {
         (Some(table), None) => Ok(table),
         (Some(one), Some(other)) => {
-            let words = format!("a second table of {first}s: its rows belong into the one at line {}", one.heading.line);
+            let words = format!(
+                "a second table of {first}s: its rows belong into the one at line {}",
+                one.heading.line
+            );
             Err(Fault::at(other.heading.line, words))
         }
         (None, _) => {
-            let words = format!("there is no table of {first}s: a heading that begins with | {first} | is due");
+            let words = format!(
+                "there is no table of {first}s: a heading that begins with | {first} | is due"
+            );
             let near = tables.iter().find(|table| {
                 let cell = table.heading.cells[0].as_str();
                 !meant(cell, [first]).is_empty()
@@ -103,13 +120,22 @@ fn the_table<'t>(tables: &'t [Table], first: &str) -> Result<&'t Table, Fault> {
 
 fn heading(table: &Table, due: &[&str]) -> Result<(), Fault> {
     let cells = &table.heading.cells;
-    let wrong = (1..).zip(cells.iter().zip(due)).find(|(_, (cell, due))| cell != due);
+    let wrong = (1..)
+        .zip(cells.iter().zip(due))
+        .find(|(_, (cell, due))| cell != due);
     let words = match wrong {
         Some((column, (cell, due))) => {
-            format!("column {column} of the heading is {}, and {due} is due there", quoted(cell))
+            format!(
+                "column {column} of the heading is {}, and {due} is due there",
+                quoted(cell)
+            )
         }
         None if cells.len() != due.len() => {
-            format!("the heading has {} columns, and must be | {} |", cells.len(), due.join(" | "))
+            format!(
+                "the heading has {} columns, and must be | {} |",
+                cells.len(),
+                due.join(" | ")
+            )
         }
         None => return Ok(()),
     };
@@ -120,12 +146,20 @@ fn heading(table: &Table, due: &[&str]) -> Result<(), Fault> {
 fn place(row: &Row) -> Result<(i32, i32), Fault> {
     let feet = |column: usize| {
         let cell = row.cells[column].as_str();
-        let (digits, sign) = cell.strip_prefix('-').map_or((cell, 1), |digits| (digits, -1));
+        let (digits, sign) = cell
+            .strip_prefix('-')
+            .map_or((cell, 1), |digits| (digits, -1));
         let feet = whole(digits).and_then(|feet| i32::try_from(feet).ok());
-        feet.filter(|feet| *feet <= FAR).map(|feet| sign * feet).ok_or_else(|| {
-            let words = format!("{} is {}, and must be whole feet, at most {FAR}", NODES[column], quoted(cell));
-            Fault::at(row.line, words)
-        })
+        feet.filter(|feet| *feet <= FAR)
+            .map(|feet| sign * feet)
+            .ok_or_else(|| {
+                let words = format!(
+                    "{} is {}, and must be whole feet, at most {FAR}",
+                    NODES[column],
+                    quoted(cell)
+                );
+                Fault::at(row.line, words)
+            })
     };
     Ok((feet(2)?, feet(3)?))
 }
@@ -151,7 +185,14 @@ fn street(row: &Row) -> Result<Segment, Fault> {
 fn fields(cells: &[String]) -> Result<Segment, String> {
     let mut segment = Segment::default();
     let numbers = [
-        (A_NODE, 2), (A_LEG, 3), (B_NODE, 4), (B_LEG, 5), (LENGTH, 6), (LANES, 9), (SPEED, 10), (REACH, 11),
+        (A_NODE, 2),
+        (A_LEG, 3),
+        (B_NODE, 4),
+        (B_LEG, 5),
+        (LENGTH, 6),
+        (LANES, 9),
+        (SPEED, 10),
+        (REACH, 11),
     ];
     for (field, column) in numbers {
         segment.set(field, number(SEGMENTS[column], &cells[column])?);
@@ -169,7 +210,12 @@ fn fields(cells: &[String]) -> Result<Segment, String> {
 fn number(what: &str, cell: &str) -> Result<u32, String> {
     match cell {
         "-" => Ok(0),
-        _ => whole(cell).ok_or_else(|| format!("{what} is {}, and must be a whole number or -", quoted(cell))),
+        _ => whole(cell).ok_or_else(|| {
+            format!(
+                "{what} is {}, and must be a whole number or -",
+                quoted(cell)
+            )
+        }),
     }
 }
 
@@ -178,7 +224,11 @@ fn word(what: &str, cell: &str, words: &[&str]) -> Result<u32, String> {
     let place = (0..).zip(words).find(|(_, word)| **word == cell);
     place.map(|(place, _)| place).ok_or_else(|| {
         let near = meant(cell, words.iter().copied());
-        format!("{what} is {}, and must be one of: {}{near}", quoted(cell), words.join(", "))
+        format!(
+            "{what} is {}, and must be one of: {}{near}",
+            quoted(cell),
+            words.join(", ")
+        )
     })
 }
 
@@ -210,7 +260,11 @@ fn approach(segment: &mut Segment, at: usize, what: &str, cell: &str) -> Result<
 
 /// A name with two numbers and their units after it, as in `island 4 lanes 30
 /// mph`; a name alone has zeros.
-fn measured<'c>(what: &str, words: &'c str, units: [&str; 2]) -> Result<(&'c str, [u32; 2]), String> {
+fn measured<'c>(
+    what: &str,
+    words: &'c str,
+    units: [&str; 2],
+) -> Result<(&'c str, [u32; 2]), String> {
     let Some(from) = words.find(|character: char| character.is_ascii_digit()) else {
         return Ok((words, [0, 0]));
     };
@@ -224,7 +278,9 @@ fn measured<'c>(what: &str, words: &'c str, units: [&str; 2]) -> Result<(&'c str
         (Some(first), Some(second)) => Ok((name.trim(), [first, second])),
         _ => Err(format!(
             "{what}: {} must be a name, a number of {} and a number of {}",
-            quoted(words), units[0], units[1]
+            quoted(words),
+            units[0],
+            units[1]
         )),
     }
 }
@@ -284,7 +340,10 @@ impl Rows<'_> {
         if refusal == Refusal::LegTaken {
             let taken = segment::taken(segments)?;
             let street = self.segments.rows.get(taken.by + 1)?;
-            let by = format!("segment {}, {} (line {})", taken.by, street.cells[1], street.line);
+            let by = format!(
+                "segment {}, {} (line {})",
+                taken.by, street.cells[1], street.line
+            );
             let place = &self.places.get(taken.node as usize)?.cells[1];
             let node = format!("node {}, {place}", taken.node);
             return Some(taken.words(taken.by == number, &by, &node));

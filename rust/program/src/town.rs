@@ -28,8 +28,15 @@ impl Town {
     pub fn read(name: &OsStr) -> Result<Town, Fault> {
         let bytes = file::read(name)?;
         if !file::is_table(name, &bytes) {
-            let network = Network::read(&bytes).map_err(|refused| explain::fault(&bytes, refused))?;
-            return Ok(Town { network, name: None, places: vec![], streets: vec![], map: None });
+            let network =
+                Network::read(&bytes).map_err(|refused| explain::fault(&bytes, refused))?;
+            return Ok(Town {
+                network,
+                name: None,
+                places: vec![],
+                streets: vec![],
+                map: None,
+            });
         }
         let described = table::read(&bytes)?;
         Ok(Town {
@@ -48,17 +55,24 @@ impl Town {
 
     /// A node's place, where it has a name.
     pub fn place(&self, node: usize) -> Option<&str> {
-        self.places.get(node).map(String::as_str).filter(|name| !name.is_empty())
+        self.places
+            .get(node)
+            .map(String::as_str)
+            .filter(|name| !name.is_empty())
     }
 
     /// A node as a page names it.
     pub fn node_name(&self, node: usize) -> String {
-        self.place(node).map_or_else(|| format!("node {node}"), str::to_string)
+        self.place(node)
+            .map_or_else(|| format!("node {node}"), str::to_string)
     }
 
     /// A segment's street, where it has a name.
     pub fn street(&self, segment: usize) -> Option<&str> {
-        self.streets.get(segment).map(String::as_str).filter(|name| !name.is_empty())
+        self.streets
+            .get(segment)
+            .map(String::as_str)
+            .filter(|name| !name.is_empty())
     }
 
     /// Where a node lies on the map.
@@ -95,11 +109,16 @@ impl Town {
             return Ok(word.parse().unwrap_or(usize::MAX));
         }
         if !self.has_names() {
-            let words = format!("{} is no number, and a network text has no names for its nodes", quoted(word));
+            let words = format!(
+                "{} is no number, and a network text has no names for its nodes",
+                quoted(word)
+            );
             return Err(Fault::new(words));
         }
         let same = |alike: &dyn Fn(&str) -> bool| -> Vec<usize> {
-            (0..self.places.len()).filter(|&node| self.place(node).is_some_and(alike)).collect()
+            (0..self.places.len())
+                .filter(|&node| self.place(node).is_some_and(alike))
+                .collect()
         };
         let lower = word.to_lowercase();
         let mut nodes = same(&|name| name == word);
@@ -110,26 +129,35 @@ impl Town {
             [node] => Ok(node),
             [] => {
                 let near = meant(word, self.places.iter().map(String::as_str));
-                Err(Fault::new(format!("no place is called {}{near}", quoted(word))))
+                Err(Fault::new(format!(
+                    "no place is called {}{near}",
+                    quoted(word)
+                )))
             }
             [first, second, ..] => Err(Fault::new(format!(
                 "{} places are called {}, nodes {first} and {second} among them: give the number",
-                nodes.len(), quoted(word)
+                nodes.len(),
+                quoted(word)
             ))),
         }
     }
 
-    /// What is wrong where a call about two nodes refuses.
-    pub fn refused(&self, refusal: Refusal, from: usize, to: usize) -> Fault {
+    /// What is wrong where a call about nodes refuses; each comes with the word
+    /// that names it.
+    pub fn refused(&self, refusal: Refusal, asked: [(usize, &str); 2]) -> Fault {
         let nodes = self.network.nodes();
-        let words = match refusal {
-            Refusal::NoSuchNode => {
-                let node = if from < nodes { to } else { from };
-                format!("there is no node {node}: nodes are 0 to {}", nodes.saturating_sub(1))
+        let missing = asked.into_iter().find(|(node, _)| *node >= nodes);
+        match (refusal, missing) {
+            (Refusal::NoSuchNode, Some((_, word))) => {
+                let words = format!(
+                    "there is no node {}: nodes are 0 to {}",
+                    quoted(word),
+                    nodes.saturating_sub(1)
+                );
+                Fault::refused(refusal, words)
             }
-            other => other.to_string(),
-        };
-        Fault::refused(refusal, words)
+            _ => unforeseen(refusal),
+        }
     }
 }
 

@@ -30,7 +30,14 @@ fn levels_are_the_oracles() {
         assert_eq!(rows.len(), oracle.segments());
         for (s, (row, segment)) in rows.iter().zip(&town.segments).enumerate() {
             let (level, measure) = oracle.segment(s).expect("a segment");
-            let names = ["lanes", "reach", "speed", "blocking", "mixed traffic", "separate path"];
+            let names = [
+                "lanes",
+                "reach",
+                "speed",
+                "blocking",
+                "mixed traffic",
+                "separate path",
+            ];
             assert_eq!(row.get("level").number(), usize::from(level));
             assert_eq!(row.get("measure").text(), names[usize::from(measure) - 1]);
             assert_eq!(row.get("a").number(), usize::from(segment.a.node));
@@ -60,10 +67,19 @@ fn routes_are_the_oracles() {
 /// Asks for a route, and holds the answer to the oracle; whether there is one.
 fn routed(town: &Town, from: usize, to: usize, limit: &str) -> bool {
     let oracle = Net::parse(&town.bytes()).expect("a network");
-    let words = ["route", "-", &from.to_string(), &to.to_string(), limit, "--json"];
+    let words = [
+        "route",
+        "-",
+        &from.to_string(),
+        &to.to_string(),
+        limit,
+        "--json",
+    ];
     let said = run(&words, &town.text());
     let answer = Json::read(&said.out);
-    let tried = limit.parse().map_or(1..=4, |tolerance| tolerance..=tolerance);
+    let tried = limit
+        .parse()
+        .map_or(1..=4, |tolerance| tolerance..=tolerance);
     let movements = oracle.movements();
     let least = |tolerances: std::ops::RangeInclusive<u8>| {
         tolerances
@@ -72,20 +88,34 @@ fn routed(town: &Town, from: usize, to: usize, limit: &str) -> bool {
     };
     assert_eq!(said.err, "");
     let Some((tolerance, feet)) = least(tried) else {
-        assert_eq!((said.status, answer.get("answer").text()), (Some(1), "none"));
+        assert_eq!(
+            (said.status, answer.get("answer").text()),
+            (Some(1), "none")
+        );
         match least(1..=4) {
             None => assert_eq!(answer.get("least").text(), "null"),
             Some((tolerance, feet)) => {
-                assert_eq!(answer.get("least").get("tolerance").number(), usize::from(tolerance));
+                assert_eq!(
+                    answer.get("least").get("tolerance").number(),
+                    usize::from(tolerance)
+                );
                 assert_eq!(answer.get("least").get("feet").number(), feet as usize);
             }
         }
         return false;
     };
-    assert_eq!((said.status, answer.get("answer").text()), (Some(0), "found"));
+    assert_eq!(
+        (said.status, answer.get("answer").text()),
+        (Some(0), "found")
+    );
     assert_eq!(answer.get("tolerance").number(), usize::from(tolerance));
     assert_eq!(answer.get("feet").number(), feet as usize);
-    let runs: Vec<u16> = answer.get("runs").list().iter().map(|run| run.get("run").number() as u16).collect();
+    let runs: Vec<u16> = answer
+        .get("runs")
+        .list()
+        .iter()
+        .map(|run| run.get("run").number() as u16)
+        .collect();
     let level = answer.get("level").number() as u8;
     oracle
         .check_route(from, to, tolerance, &runs, runs.len(), feet, level)
@@ -106,12 +136,23 @@ fn corners(town: &Town, runs: &[u16], corners: &[Json]) {
         let (p, q) = (pair[0], pair[1]);
         let level = judge(town, p, q);
         assert_eq!(corner.get("level").number(), usize::from(level));
-        assert_eq!(corner.get("right_hand_exit").text(), right_hand(town, p, q).to_string());
-        let alone = |change: fn(Approach) -> Approach| judge(&changed(town, p, change), p, q) == level;
+        assert_eq!(
+            corner.get("right_hand_exit").text(),
+            right_hand(town, p, q).to_string()
+        );
+        let alone =
+            |change: fn(Approach) -> Approach| judge(&changed(town, p, change), p, q) == level;
         let crossing = alone(|met| met.turning(0, 0, 0));
-        let turn_lane = alone(|met| Approach { control: 0, lanes: 0, speed: 0, ..met });
+        let turn_lane = alone(|met| Approach {
+            control: 0,
+            lanes: 0,
+            speed: 0,
+            ..met
+        });
         let decided = [(crossing, "crossing"), (turn_lane, "turn lane")];
-        let decided = decided.into_iter().filter(|(decides, _)| *decides && level > 1);
+        let decided = decided
+            .into_iter()
+            .filter(|(decides, _)| *decides && level > 1);
         let said = corner.get("decided_by").list().iter().map(Json::text);
         assert!(said.eq(decided.map(|(_, name)| name)), "{corner:?}");
     }
@@ -137,8 +178,12 @@ fn right_hand(town: &Town, p: u16, q: u16) -> bool {
     };
     let (arrival, leaving) = (ends(p).1, ends(q).0);
     let used = |leg: u8| {
-        let all = town.segments.iter().flat_map(|segment| [segment.a, segment.b]);
-        all.into_iter().any(|end| (end.node, end.leg) == (arrival.node, leg))
+        let all = town
+            .segments
+            .iter()
+            .flat_map(|segment| [segment.a, segment.b]);
+        all.into_iter()
+            .any(|end| (end.node, end.leg) == (arrival.node, leg))
     };
     let below = (1..8).map(|step| (arrival.leg + 8 - step) % 8);
     below.into_iter().find(|leg| used(*leg)) == Some(leaving.leg)
@@ -149,12 +194,28 @@ fn tables_and_texts_say_the_same() {
     for (mut rng, town) in some_towns(4) {
         let described = table(&town, rng.chance(50));
         let text = run(&["text", "-"], described.as_bytes());
-        assert_eq!((text.status, text.out.as_bytes()), (Some(0), &town.text()[..]));
+        assert_eq!(
+            (text.status, text.out.as_bytes()),
+            (Some(0), &town.text()[..])
+        );
         let nodes = usize::from(town.nodes);
         let (from, to) = (rng.below(nodes), rng.below(nodes));
         let (place, other) = (format!("Place {from}"), format!("place {to}"));
-        let named = run(&["route", "-", &place, &other, "least", "--json"], described.as_bytes());
-        let plain = run(&["route", "-", &from.to_string(), &to.to_string(), "least", "--json"], &town.text());
+        let named = run(
+            &["route", "-", &place, &other, "least", "--json"],
+            described.as_bytes(),
+        );
+        let plain = run(
+            &[
+                "route",
+                "-",
+                &from.to_string(),
+                &to.to_string(),
+                "least",
+                "--json",
+            ],
+            &town.text(),
+        );
         let (named_answer, plain_answer) = (Json::read(&named.out), Json::read(&plain.out));
         assert_eq!(named.status, plain.status);
         for field in ["answer", "asked"] {
@@ -180,12 +241,22 @@ fn refusals_are_the_oracles() {
             let answer = Json::read(&said.out);
             let refused = oracle::read(&damaged.text, usize::MAX).expect_err("a refusal");
             let told = (answer.get("refusal").number(), answer.get("line").number());
-            assert_eq!(told, (usize::from(refused.0), refused.1), "{}", damaged.what);
+            assert_eq!(
+                told,
+                (usize::from(refused.0), refused.1),
+                "{}",
+                damaged.what
+            );
             assert_eq!(said.status, Some(2));
             let words = answer.get("words").text();
             let plain = splicereel::Refusal::from_number(u32::from(number)).to_string();
             assert_ne!(words, plain, "{}", damaged.what);
-            assert!(said.err.ends_with(&format!("line {}: {words}\n", refused.1)), "{}", said.err);
+            assert!(
+                said.err
+                    .ends_with(&format!("line {}: {words}\n", refused.1)),
+                "{}",
+                said.err
+            );
         }
     }
     assert!(tried > 400, "{tried}");

@@ -91,8 +91,30 @@ fn changed(rng: &mut Rng, whole: fn(&mut Rng) -> Vec<u8>) -> Vec<u8> {
 /// A table with some cells that hold something else.
 fn other_cells(rng: &mut Rng) -> Vec<u8> {
     const WORDS: [&str; 24] = [
-        "", "-", "-1", "0", "255", "256", "65536", "4294967296", "99999999999999999999", "1,000", "1,00", "1.5", "\u{1F6B2}", "\\|", "\\",
-        "; ", "island", "island 4 lanes 30 mph", "signal; straight 1 ft 5 mph", "both", "path", "mixed", "<&\"'>", "\u{202E}\u{7}",
+        "",
+        "-",
+        "-1",
+        "0",
+        "255",
+        "256",
+        "65536",
+        "4294967296",
+        "99999999999999999999",
+        "1,000",
+        "1,00",
+        "1.5",
+        "\u{1F6B2}",
+        "\\|",
+        "\\",
+        "; ",
+        "island",
+        "island 4 lanes 30 mph",
+        "signal; straight 1 ft 5 mph",
+        "both",
+        "path",
+        "mixed",
+        "<&\"'>",
+        "\u{202E}\u{7}",
     ];
     let file = String::from_utf8(whole_table(rng)).expect("text");
     let mut cells: Vec<&str> = file.split('|').collect();
@@ -105,7 +127,13 @@ fn other_cells(rng: &mut Rng) -> Vec<u8> {
 
 /// Lines of a text and of a table, in any order, some twice and some left out.
 fn mixed_lines(rng: &mut Rng) -> Vec<u8> {
-    let file = [whole_text(rng), whole_table(rng), SEGMENTS.into(), b"```\n\n\r\n".to_vec()].concat();
+    let file = [
+        whole_text(rng),
+        whole_table(rng),
+        SEGMENTS.into(),
+        b"```\n\n\r\n".to_vec(),
+    ]
+    .concat();
     let lines: Vec<&[u8]> = file.split_inclusive(|&byte| byte == b'\n').collect();
     let count = rng.below(lines.len() + 1);
     (0..count).flat_map(|_| rng.pick(&lines).to_vec()).collect()
@@ -123,11 +151,27 @@ fn large(rng: &mut Rng) -> Vec<u8> {
     part.into_iter().cycle().take(length).collect()
 }
 
+/// Words that ask nothing.
+const ODD: [&str; 12] = [
+    "",
+    "-",
+    "--",
+    "-1",
+    "--json",
+    "--hlep",
+    "least",
+    "Plaza",
+    "99999999999999999999",
+    "\u{E9}",
+    "-\u{E9}",
+    "\u{1F6B2}\u{202E}\u{7}\n",
+];
+
 /// The words of a call about a file.
 fn words(rng: &mut Rng, file: &str) -> Vec<String> {
     let place = |rng: &mut Rng| match rng.below(4) {
         0 => format!("Place {}", rng.below(40)),
-        1 => rng.pick(&["", "-1", "Plaza", "99999999999999999999"]).to_string(),
+        1 => rng.pick(&ODD).to_string(),
         _ => rng.below(30).to_string(),
     };
     let command = rng.pick(&["check", "levels", "route", "route", "draw", "draw", "text"]);
@@ -138,6 +182,10 @@ fn words(rng: &mut Rng, file: &str) -> Vec<String> {
     }
     if ["check", "levels", "route"].contains(&command) && rng.chance(30) {
         words.push("--json".into());
+    }
+    if rng.chance(3) {
+        let place = rng.below(words.len() + 1);
+        words.insert(place, rng.pick(&ODD).into());
     }
     words
 }
@@ -162,7 +210,12 @@ impl Trial {
         let path = place(&format!("damaged-{worker}{}", rng.pick(&["", ".md"])));
         let name = if rng.chance(30) { "-" } else { &path };
         let words = words(&mut rng, name);
-        Trial { kind, path, file, words }
+        Trial {
+            kind,
+            path,
+            file,
+            words,
+        }
     }
 
     /// Runs the program; it may take a second, and where the machine was busy
@@ -180,12 +233,11 @@ impl Trial {
                 .spawn()
                 .expect("the program");
             let mut stdin = program.stdin.take().expect("its input");
-            if self.words[1] == "-" {
-                // A wrong call is told before the input is read.
-                let _ = stdin.write_all(&self.file);
-            }
-            drop(stdin);
-            let output = program.wait_with_output().expect("its output");
+            let output = std::thread::scope(|scope| {
+                // A program that reads no standard input closes it early.
+                scope.spawn(move || drop(stdin.write_all(&self.file)));
+                program.wait_with_output().expect("its output")
+            });
             took = start.elapsed();
             if took < Duration::from_secs(1) {
                 return Ok(output);
@@ -198,14 +250,20 @@ impl Trial {
     fn wrong(&self, output: &Output) -> Option<&'static str> {
         let (out, err) = (&output.stdout, &output.stderr);
         let lines = err.split_inclusive(|&byte| byte == b'\n').count();
-        let json = self.words.last().is_some_and(|word| word == "--json");
-        let whole = out.is_empty() || out.ends_with(b"\n");
+        // An object or a graph, a picture, lines.
+        let ends: [(&[u8], &[u8]); 3] =
+            [(b"{", b"}\n"), (b"digraph", b"}\n"), (b"<svg", b"</svg>\n")];
+        let end = ends
+            .iter()
+            .find(|(start, _)| out.starts_with(start))
+            .map_or(&b"\n"[..], |(_, end)| end);
+        let whole = out.is_empty() || out.ends_with(end);
         match output.status.code() {
-            _ if !whole => Some("an answer that ends in the middle of a line"),
+            _ if !whole => Some("an answer that ends in the middle"),
             Some(0 | 1) if !err.is_empty() => Some("an answer with an error"),
-            Some(0) | Some(1) => None,
+            Some(0 | 1) => None,
             Some(2) if lines != 1 || !err.ends_with(b"\n") => Some("a fault that is not one line"),
-            Some(2) if !json && !out.is_empty() => Some("a fault with an answer"),
+            Some(2) if !out.is_empty() && !out.starts_with(b"{") => Some("a fault with an answer"),
             Some(2) => None,
             _ => Some("another status"),
         }
@@ -258,13 +316,19 @@ fn place(name: &str) -> String {
 fn attempt(seed: u64, number: u64, worker: usize, count: &Mutex<Count>) {
     let trial = Trial::new(seed, number, worker);
     let (status, wrong) = match trial.run() {
-        Ok(output) => (output.status.code(), trial.wrong(&output).map(str::to_string)),
+        Ok(output) => (
+            output.status.code(),
+            trial.wrong(&output).map(str::to_string),
+        ),
         Err(wrong) => (None, Some(wrong)),
     };
     if let Some(wrong) = wrong {
         let kept = place(&format!("fails-{seed}-{number}"));
         fs::write(&kept, &trial.file).expect("a file");
-        panic!("{wrong}: splicereel {:?} on {}, kept as {kept}; SEED={seed}, file {number}", trial.words, KINDS[trial.kind].0);
+        panic!(
+            "{wrong}: splicereel {:?} on {}, kept as {kept}; SEED={seed}, file {number}",
+            trial.words, KINDS[trial.kind].0
+        );
     }
     let mut count = count.lock().expect("no panic");
     count.kinds[trial.kind] += 1;

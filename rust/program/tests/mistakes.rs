@@ -6,7 +6,8 @@ mod common;
 use common::{SEGMENTS, run};
 
 const NODES: &str = "| node | place |\n|---|---|\n| 0 | here |\n| 1 | there |\n";
-const ROW: &str = "| 0 | Elm Street | 0 | 2 | 1 | 6 | 500 | path | both | - | - | - | - | nothing | nothing |\n";
+const ROW: &str =
+    "| 0 | Elm Street | 0 | 2 | 1 | 6 | 500 | path | both | - | - | - | - | nothing | nothing |\n";
 
 /// A description with this row; its rows begin at line 8.
 fn with(row: &str) -> String {
@@ -28,20 +29,37 @@ fn mixed(old: &str, new: &str) -> String {
 
 fn says(words: &[&str], input: &[u8], due: &str) {
     let said = run(words, input);
-    assert_eq!((said.status, said.out.as_str()), (Some(2), ""), "{}", said.err);
+    assert_eq!(
+        (said.status, said.out.as_str()),
+        (Some(2), ""),
+        "{}",
+        said.err
+    );
     assert_eq!(said.err.lines().count(), 1, "{}", said.err);
     assert_eq!(said.err, format!("splicereel: {due}\n"));
 }
 
 fn table_says(table: &str, due: &str) {
-    says(&["text", "-"], table.as_bytes(), &format!("standard input: {due}"));
-    says(&["check", "-"], table.as_bytes(), &format!("standard input: {due}"));
+    says(
+        &["text", "-"],
+        table.as_bytes(),
+        &format!("standard input: {due}"),
+    );
+    says(
+        &["check", "-"],
+        table.as_bytes(),
+        &format!("standard input: {due}"),
+    );
 }
 
 #[test]
 fn the_table_without_mistakes_is_taken() {
     for good in [with(ROW), mixed("| 2 |", "| 2 |"), with("")] {
-        assert_eq!(run(&["check", "-"], good.as_bytes()).status, Some(0), "{good}");
+        assert_eq!(
+            run(&["check", "-"], good.as_bytes()).status,
+            Some(0),
+            "{good}"
+        );
     }
 }
 
@@ -50,39 +68,81 @@ fn tables_that_are_missing_or_broken() {
     let nodes = "there is no table of nodes: a heading that begins with | node | is due";
     let segments = "there is no table of segments: a heading that begins with | segment | is due";
     table_says("| from | to |\n|---|---|\n", nodes);
-    table_says(&with(ROW).replace("| node |", "| nodes |"), &format!("line 1: {nodes}"));
+    table_says(
+        &with(ROW).replace("| node |", "| nodes |"),
+        &format!("line 1: {nodes}"),
+    );
     table_says(NODES, segments);
     table_says(&format!("```\n{}```\n| a |\n", with(ROW)), nodes);
-    table_says(&with(ROW).replace("| mph |", "| kmh |"), "line 6: column 11 of the heading is 'kmh', and mph is due there");
+    table_says(
+        &with(ROW).replace("| mph |", "| kmh |"),
+        "line 6: column 11 of the heading is 'kmh', and mph is due there",
+    );
     table_says(
         &with(ROW).replace("| node | place |", "| node | place | x |"),
         "line 1: the heading has 3 columns, and must be | node | place | x | y |",
     );
-    table_says(&with(ROW).replace("|---|---|\n|", "|"), "line 1: a row of dashes, as in |---|---|, is due below this heading");
-    table_says(&format!("{}\n{NODES}", with(ROW)), "line 10: a second table of nodes: its rows belong into the one at line 1");
+    table_says(
+        &with(ROW).replace("|---|---|\n|", "|"),
+        "line 1: a row of dashes, as in |---|---|, is due below this heading",
+    );
+    table_says(
+        &format!("{}\n{NODES}", with(ROW)),
+        "line 10: a second table of nodes: its rows belong into the one at line 1",
+    );
     let parted = with(ROW).replace("| 1 | there", "\n| 1 | there");
-    table_says(&parted, "line 5: a row of no table: an empty line, or another text, parts it from its heading");
-    table_says(&with(ROW).replace("| there |", "| there"), "line 4: the row does not end with a bar, |: '| 1 | there'");
+    table_says(
+        &parted,
+        "line 5: a row of no table: an empty line, or another text, parts it from its heading",
+    );
+    table_says(
+        &with(ROW).replace("| there |", "| there"),
+        "line 4: the row does not end with a bar, |: '| 1 | there'",
+    );
 }
 
 #[test]
 fn rows_and_cells() {
-    table_says(&with("| 0 | a |\n"), "line 8: 2 cells, and the heading has 15");
-    table_says(&row("| 0 | Elm", "| 1 | Elm"), "line 8: the row is numbered '1', and 0 is due");
-    table_says(&row("500", "long"), "line 8: feet is 'long', and must be a whole number or -");
-    table_says(&row("500", "12,5"), "line 8: feet is '12,5', and must be a whole number or -");
-    table_says(&row("500", "99999999999"), "line 8: feet is '99999999999', and must be a whole number or -");
-    table_says(&row("path", "tram"), "line 8: form is 'tram', and must be one of: mixed, beside parking, bike lane, path");
+    table_says(
+        &with("| 0 | a |\n"),
+        "line 8: 2 cells, and the heading has 15",
+    );
+    table_says(
+        &row("| 0 | Elm", "| 1 | Elm"),
+        "line 8: the row is numbered '1', and 0 is due",
+    );
+    table_says(
+        &row("500", "long"),
+        "line 8: feet is 'long', and must be a whole number or -",
+    );
+    table_says(
+        &row("500", "12,5"),
+        "line 8: feet is '12,5', and must be a whole number or -",
+    );
+    table_says(
+        &row("500", "99999999999"),
+        "line 8: feet is '99999999999', and must be a whole number or -",
+    );
+    table_says(
+        &row("path", "tram"),
+        "line 8: form is 'tram', and must be one of: mixed, beside parking, bike lane, path",
+    );
     table_says(
         &row("path", "bikelane"),
         "line 8: form is 'bikelane', and must be one of: mixed, beside parking, bike lane, path; did you mean bike lane?",
     );
-    table_says(&row("both", "a to b"), "line 8: ways is 'a to b', and must be one of: A to B, B to A, both; did you mean A to B?");
+    table_says(
+        &row("both", "a to b"),
+        "line 8: ways is 'a to b', and must be one of: A to B, B to A, both; did you mean A to B?",
+    );
     table_says(
         &mixed("- | - | nothing", "- | centerline | nothing"),
         "line 8: a mark is 'centerline', and must be one of: centreline, residential, median, blocked; did you mean centreline?",
     );
-    table_says(&row("nothing |\n", "bridge |\n"), "line 8: at A is 'bridge', and must be one of: nothing, signal, no island, island, one-way");
+    table_says(
+        &row("nothing |\n", "bridge |\n"),
+        "line 8: at A is 'bridge', and must be one of: nothing, signal, no island, island, one-way",
+    );
     table_says(
         &row("nothing |\n", "island 4 lanes |\n"),
         "line 8: at A: 'island 4 lanes' must be a name, a number of lanes and a number of mph",
@@ -100,16 +160,40 @@ fn rows_and_cells() {
 #[test]
 fn fields_against_the_rules() {
     let refused = |line: usize, words: &str| format!("refused, number 4, line {line}: {words}");
-    table_says(&row("| 6 |", "| 600 |"), &refused(8, "B leg is 600 and must be 0 to 7"));
-    table_says(&row("| 1 | 6 |", "| 2 | 6 |"), &refused(8, "B node is 2 and must be 0 to 1"));
-    table_says(&row("500", "52,801"), &refused(8, "length is 52801 and must be 1 to 52800"));
-    table_says(&row("500", "70000"), &refused(8, "length is 70000 and must be 1 to 52800"));
-    table_says(&mixed("| 2 | 25 |", "| - | 25 |"), &refused(8, "lanes is 0 and must be 1 to 12 in mixed traffic"));
-    table_says(&mixed("| 2 | 25 | - |", "| 2 | 25 | 9 |"), &refused(8, "reach is 9 and must be 0 in mixed traffic"));
-    table_says(&row("path | both | -", "path | both | 2"), &refused(8, "lanes is 2 and must be 0 on a separate path"));
+    table_says(
+        &row("| 6 |", "| 600 |"),
+        &refused(8, "B leg is 600 and must be 0 to 7"),
+    );
+    table_says(
+        &row("| 1 | 6 |", "| 2 | 6 |"),
+        &refused(8, "B node is 2 and must be 0 to 1"),
+    );
+    table_says(
+        &row("500", "52,801"),
+        &refused(8, "length is 52801 and must be 1 to 52800"),
+    );
+    table_says(
+        &row("500", "70000"),
+        &refused(8, "length is 70000 and must be 1 to 52800"),
+    );
+    table_says(
+        &mixed("| 2 | 25 |", "| - | 25 |"),
+        &refused(8, "lanes is 0 and must be 1 to 12 in mixed traffic"),
+    );
+    table_says(
+        &mixed("| 2 | 25 | - |", "| 2 | 25 | 9 |"),
+        &refused(8, "reach is 9 and must be 0 in mixed traffic"),
+    );
+    table_says(
+        &row("path | both | -", "path | both | 2"),
+        &refused(8, "lanes is 2 and must be 0 on a separate path"),
+    );
     table_says(
         &row("nothing |\n", "island |\n"),
-        &refused(8, "lanes crossed at A is 0 and must be 1 to 12 where lanes are crossed"),
+        &refused(
+            8,
+            "lanes crossed at A is 0 and must be 1 to 12 where lanes are crossed",
+        ),
     );
     table_says(
         &row("nothing |\n", "signal 4 lanes 30 mph |\n"),
@@ -117,11 +201,16 @@ fn fields_against_the_rules() {
     );
     table_says(
         &row("nothing |\n", "nothing; straight |\n"),
-        &refused(8, "turn-lane length at A is 0 and must be 1 to 2000 with a turn lane"),
+        &refused(
+            8,
+            "turn-lane length at A is 0 and must be 1 to 2000 with a turn lane",
+        ),
     );
     let no_nodes = with(ROW).replace("| 0 | here |\n| 1 | there |\n", "");
     table_says(&no_nodes, &refused(1, "0 nodes: a town has 1 to 1000"));
-    let many: String = (0..70_000).map(|node| format!("| {node} | a |\n")).collect();
+    let many: String = (0..70_000)
+        .map(|node| format!("| {node} | a |\n"))
+        .collect();
     let many = with(ROW).replace("| 0 | here |\n| 1 | there |\n", &many);
     table_says(&many, &refused(1, "70000 nodes: a town has 1 to 1000"));
 }
@@ -132,7 +221,10 @@ fn legs_that_are_taken() {
         &row("| 1 | 6 |", "| 0 | 2 |"),
         "refused, number 6, line 8: both ends have leg 2 of node 0, here",
     );
-    let second = ROW.replace("| 0 | Elm Street | 0 | 2 | 1 | 6 |", "| 1 | Oak Street | 0 | 3 | 1 | 6 |");
+    let second = ROW.replace(
+        "| 0 | Elm Street | 0 | 2 | 1 | 6 |",
+        "| 1 | Oak Street | 0 | 3 | 1 | 6 |",
+    );
     table_says(
         &with(&format!("{ROW}{second}")),
         "refused, number 6, line 9: the B end has leg 6 of node 1, there, which the B end of segment 0, Elm Street (line 8) has already",
@@ -142,51 +234,132 @@ fn legs_that_are_taken() {
 #[test]
 fn places_on_the_map() {
     let map = |x: &str| {
-        let nodes = format!("| node | place | x | y |\n|---|---|---|---|\n| 0 | here | {x} | -1,200 |\n| 1 | there | 0 | 0 |\n");
+        let nodes = format!(
+            "| node | place | x | y |\n|---|---|---|---|\n| 0 | here | {x} | -1,200 |\n| 1 | there | 0 | 0 |\n"
+        );
         with(ROW).replace(NODES, &nodes)
     };
     assert_eq!(run(&["check", "-"], map("-20").as_bytes()).status, Some(0));
-    table_says(&map("-"), "line 3: x is '-', and must be whole feet, at most 10000000");
-    table_says(&map("1.5"), "line 3: x is '1.5', and must be whole feet, at most 10000000");
-    table_says(&map("10000001"), "line 3: x is '10000001', and must be whole feet, at most 10000000");
+    table_says(
+        &map("-"),
+        "line 3: x is '-', and must be whole feet, at most 10000000",
+    );
+    table_says(
+        &map("1.5"),
+        "line 3: x is '1.5', and must be whole feet, at most 10000000",
+    );
+    table_says(
+        &map("10000001"),
+        "line 3: x is '10000001', and must be whole feet, at most 10000000",
+    );
 }
 
 #[test]
 fn files_in_another_encoding() {
     let latin = with(ROW).replace("Elm", "\u{FFFF}").into_bytes();
     let latin: Vec<u8> = latin.into_iter().filter(|byte| *byte != 0xBF).collect();
-    says(&["check", "-"], &latin, "standard input: line 8: the line is not in UTF-8: save the file as UTF-8");
+    says(
+        &["check", "-"],
+        &latin,
+        "standard input: line 8: the line is not in UTF-8: save the file as UTF-8",
+    );
     let marked = format!("\u{FEFF}{}", with(ROW)).replace('\n', "\r\n");
     assert_eq!(run(&["check", "-"], marked.as_bytes()).status, Some(0));
-    let wide = [b"\xFF\xFE".to_vec(), with(ROW).bytes().flat_map(|byte| [byte, 0]).collect()].concat();
-    says(&["text", "-"], &wide, "standard input: line 1: the file is in UTF-16: save it as UTF-8");
+    let wide = [
+        b"\xFF\xFE".to_vec(),
+        with(ROW).bytes().flat_map(|byte| [byte, 0]).collect(),
+    ]
+    .concat();
+    says(
+        &["text", "-"],
+        &wide,
+        "standard input: line 1: the file is in UTF-16: save it as UTF-8",
+    );
 }
 
 #[test]
 fn texts_that_are_refused() {
     let first = b"010100030003F8\n";
     for (text, due) in [
-        (&b""[..], "number 3, line 1: the file is empty: a head is due"),
+        (
+            &b""[..],
+            "number 3, line 1: the file is empty: a head is due",
+        ),
         (b"\n", "number 1, line 1: the line is empty: take it out"),
-        (b"\xEF\xBB\xBF010100010000FD\n", "number 1, line 1: a byte order mark (EF BB BF) stands before the first digit: save the file without one"),
-        (b"\xFF\xFE0\x001\x00\n", "number 1, line 1: the file is in UTF-16: save it as plain text, a byte for each digit"),
-        (b"010100010000FD\r\n", "number 1, line 1: a carriage return stands before the line feed: save the file with line feeds alone"),
-        (b"010100010000FD", "number 1, line 1: the line feed after the last line is missing"),
-        (b"010100010000F", "number 1, line 1: the file ends after 13 digits of this line: it was cut"),
-        (b"010100010000F\n", "number 1, line 1: the line has 13 digits: two make a byte, so one is missing or too many"),
-        (b"010100010000fd\n", "number 1, line 1: the small letter f at column 13 is no digit: digits are 0 to 9 and A to F"),
-        (b"0101 0001\n", "number 1, line 1: a blank at column 5 is no digit: digits are 0 to 9 and A to F"),
-        (b"0101\x070001\n", "number 1, line 1: byte 07 at column 5 is no digit: digits are 0 to 9 and A to F"),
-        (b"010100010000FC\n", "number 2, line 1: the check is FC, and the bytes before it need FD: one of the digits is wrong"),
-        (b"0202FC\n", "number 3, line 1: this is a segment, and the first line must be a head"),
-        (b"0101FE\n", "number 3, line 1: the line has 3 bytes, and a head has 7: digits are missing"),
-        (b"010100010000FD\n010100010000FD\n", "number 3, line 2: this is a head, and only the first line is one"),
-        (b"010900010000F5\n", "number 4, line 1: edition 09 is not known: 01 is"),
-        (b"010100000000FE\n", "number 4, line 1: 0 nodes: a town has 1 to 1000"),
-        (b"0101000103E911\n", "number 4, line 1: 1001 segments: a town has at most 1000"),
-        (first, "number 5, line 2: the text ends after 0 of the 3 segments that the head counts: lines are missing"),
+        (
+            b"\xEF\xBB\xBF010100010000FD\n",
+            "number 1, line 1: a byte order mark (EF BB BF) stands before the first digit: save the file without one",
+        ),
+        (
+            b"\xFF\xFE0\x001\x00\n",
+            "number 1, line 1: the file is in UTF-16: save it as plain text, a byte for each digit",
+        ),
+        (
+            b"010100010000FD\r\n",
+            "number 1, line 1: a carriage return stands before the line feed: save the file with line feeds alone",
+        ),
+        (
+            b"010100010000FD",
+            "number 1, line 1: the line feed after the last line is missing",
+        ),
+        (
+            b"010100010000F",
+            "number 1, line 1: the file ends after 13 digits of this line: it was cut",
+        ),
+        (
+            b"010100010000F\n",
+            "number 1, line 1: the line has 13 digits: two make a byte, so one is missing or too many",
+        ),
+        (
+            b"010100010000fd\n",
+            "number 1, line 1: the small letter f at column 13 is no digit: digits are 0 to 9 and A to F",
+        ),
+        (
+            b"0101 0001\n",
+            "number 1, line 1: a blank at column 5 is no digit: digits are 0 to 9 and A to F",
+        ),
+        (
+            b"0101\x070001\n",
+            "number 1, line 1: byte 07 at column 5 is no digit: digits are 0 to 9 and A to F",
+        ),
+        (
+            b"010100010000FC\n",
+            "number 2, line 1: the check is FC, and the bytes before it need FD: one of the digits is wrong",
+        ),
+        (
+            b"0202FC\n",
+            "number 3, line 1: this is a segment, and the first line must be a head",
+        ),
+        (
+            b"0101FE\n",
+            "number 3, line 1: the line has 3 bytes, and a head has 7: digits are missing",
+        ),
+        (
+            b"010100010000FD\n010100010000FD\n",
+            "number 3, line 2: this is a head, and only the first line is one",
+        ),
+        (
+            b"010900010000F5\n",
+            "number 4, line 1: edition 09 is not known: 01 is",
+        ),
+        (
+            b"010100000000FE\n",
+            "number 4, line 1: 0 nodes: a town has 1 to 1000",
+        ),
+        (
+            b"0101000103E911\n",
+            "number 4, line 1: 1001 segments: a town has at most 1000",
+        ),
+        (
+            first,
+            "number 5, line 2: the text ends after 0 of the 3 segments that the head counts: lines are missing",
+        ),
     ] {
-        says(&["check", "-"], text, &format!("standard input: refused, {due}"));
+        says(
+            &["check", "-"],
+            text,
+            &format!("standard input: refused, {due}"),
+        );
     }
 }
 
@@ -195,26 +368,88 @@ fn wrong_calls() {
     let table = with(ROW);
     let input = table.as_bytes();
     for (words, due) in [
-        (&[][..], "a command is missing: check, levels, route, draw, text; see splicereel --help"),
-        (&["rout"], "'rout' is no command; expected one of check, levels, route, draw, text; did you mean route?"),
-        (&["x\u{1b}[31m"], "'x\u{FFFD}[31m' is no command; expected one of check, levels, route, draw, text"),
-        (&["check"], "check: its words are missing; expected: splicereel check FILE"),
-        (&["check", "-", "more"], "check: 2 words are given; expected: splicereel check FILE"),
-        (&["route", "-"], "route: only a file is given; expected: splicereel route FILE FROM TO TOLERANCE|least"),
-        (&["check", "-", "--jsn"], "'--jsn' is no option; expected one of --json, --help, --version; did you mean --json?"),
-        (&["draw", "-", "--json"], "draw has no --json; expected: splicereel draw FILE [FROM TO TOLERANCE|least]"),
-        (&["route", "-", "0", "1", "5"], "standard input: TOLERANCE is '5', and must be 1, 2, 3, 4 or least"),
-        (&["route", "-", "0", "1", "Least"], "standard input: TOLERANCE is 'Least', and must be 1, 2, 3, 4 or least; did you mean least?"),
-        (&["route", "-", "0", "ther", "1"], "standard input: no place is called 'ther'; did you mean there?"),
-        (&["route", "-", "0", "-1", "1"], "standard input: no place is called '-1'"),
-        (&["route", "-", "0", "2", "1"], "standard input: refused, number 9: there is no node 2: nodes are 0 to 1"),
-        (&["draw", "-", "7", "1", "1"], "standard input: refused, number 9: there is no node 7: nodes are 0 to 1"),
+        (
+            &[][..],
+            "a command is missing: check, levels, route, draw, text; see splicereel --help",
+        ),
+        (
+            &["rout"],
+            "'rout' is no command; expected one of check, levels, route, draw, text; did you mean route?",
+        ),
+        (
+            &["--json"],
+            "a command is missing: check, levels, route, draw, text; see splicereel --help",
+        ),
+        (
+            &["\u{E9}"],
+            "'\u{E9}' is no command; expected one of check, levels, route, draw, text",
+        ),
+        (
+            &["x\u{1b}[31m"],
+            "'x\u{FFFD}[31m' is no command; expected one of check, levels, route, draw, text",
+        ),
+        (
+            &["check"],
+            "check: its words are missing; expected: splicereel check FILE",
+        ),
+        (
+            &["check", "-", "more"],
+            "check: 2 words are given; expected: splicereel check FILE",
+        ),
+        (
+            &["route", "-"],
+            "route: only a file is given; expected: splicereel route FILE FROM TO TOLERANCE|least",
+        ),
+        (
+            &["check", "-", "--jsn"],
+            "'--jsn' is no option; expected one of --json, --help, --version; did you mean --json?",
+        ),
+        (
+            &["draw", "-", "--json"],
+            "draw has no --json; expected: splicereel draw FILE [FROM TO TOLERANCE|least]",
+        ),
+        (
+            &["route", "-", "0", "1", "5"],
+            "standard input: TOLERANCE is '5', and must be 1, 2, 3, 4 or least",
+        ),
+        (
+            &["route", "-", "0", "1", "Least"],
+            "standard input: TOLERANCE is 'Least', and must be 1, 2, 3, 4 or least; did you mean least?",
+        ),
+        (
+            &["route", "-", "0", "ther", "1"],
+            "standard input: no place is called 'ther'; did you mean there?",
+        ),
+        (
+            &["route", "-", "0", "-1", "1"],
+            "standard input: no place is called '-1'",
+        ),
+        (
+            &["route", "-", "0", "2", "1"],
+            "standard input: refused, number 9: there is no node '2': nodes are 0 to 1",
+        ),
+        (
+            &["draw", "-", "7", "1", "1"],
+            "standard input: refused, number 9: there is no node '7': nodes are 0 to 1",
+        ),
     ] {
         says(words, input, due);
     }
-    says(&["check", "no/such/file"], b"", "no/such/file: cannot be read: No such file or directory (os error 2)");
-    says(&["check", "/"], b"", "/: cannot be read: Is a directory (os error 21)");
-    says(&["check", "/dev/zero"], b"", "/dev/zero: has more than 16 MiB: no town's file is so large");
+    says(
+        &["check", "no/such/file"],
+        b"",
+        "no/such/file: cannot be read: No such file or directory (os error 2)",
+    );
+    says(
+        &["check", "/"],
+        b"",
+        "/: cannot be read: Is a directory (os error 21)",
+    );
+    says(
+        &["check", "/dev/zero"],
+        b"",
+        "/dev/zero: has more than 16 MiB: no town's file is so large",
+    );
     says(
         &["route", "-", "here", "0", "1"],
         b"010100010000FD\n",
@@ -226,6 +461,9 @@ fn wrong_calls() {
         twins.as_bytes(),
         "standard input: 2 places are called 'HERE', nodes 0 and 1 among them: give the number",
     );
-    assert_eq!(run(&["route", "-", "Here", "0", "1"], twins.as_bytes()).status, Some(0));
+    assert_eq!(
+        run(&["route", "-", "Here", "0", "1"], twins.as_bytes()).status,
+        Some(0)
+    );
     assert_eq!(run(&["check", "--", "-"], input).status, Some(0));
 }

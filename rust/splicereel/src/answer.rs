@@ -58,10 +58,13 @@ impl FromStr for Level {
     type Err = Refusal;
 
     fn from_str(word: &str) -> Result<Level, Refusal> {
-        word.parse()
-            .ok()
-            .and_then(Level::from_number)
-            .ok_or(Refusal::NoSuchTolerance)
+        match word {
+            "1" => Ok(Level::One),
+            "2" => Ok(Level::Two),
+            "3" => Ok(Level::Three),
+            "4" => Ok(Level::Four),
+            _ => Err(Refusal::NoSuchTolerance),
+        }
     }
 }
 

@@ -53,7 +53,12 @@ pub fn read(text: &[u8], output: &mut [u8], told: &mut Told) -> u32 {
 pub fn judge_segment(net: &[u8], segment: usize, told: &mut Told) -> u32 {
     // SAFETY: pointers and lengths of live slices; see above.
     unsafe {
-        splicereel_sys::splicereel_judge_segment(net.as_ptr(), net.len(), segment, told.as_mut_ptr())
+        splicereel_sys::splicereel_judge_segment(
+            net.as_ptr(),
+            net.len(),
+            segment,
+            told.as_mut_ptr(),
+        )
     }
 }
 

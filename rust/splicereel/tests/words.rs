@@ -28,7 +28,11 @@ fn refusals_have_the_same_words() {
     let numbers = enumerators("splicereel_number");
     let refusals = numbers.iter().filter(|(_, number)| *number != 0);
     for (name, number) in refusals {
-        assert_eq!(text(name), Refusal::from_number(*number).to_string(), "{name}");
+        assert_eq!(
+            text(name),
+            Refusal::from_number(*number).to_string(),
+            "{name}"
+        );
     }
     assert_eq!(numbers.len(), 14);
     assert_eq!(HEADER.matches("\n    case SPLICEREEL_").count(), 14);
@@ -49,7 +53,9 @@ fn measures_have_the_same_names() {
 fn versions_are_the_same() {
     let version = env!("CARGO_PKG_VERSION");
     assert!(HEADER.contains(&format!("#define SPLICEREEL_VERSION \"{version}\"\n")));
-    let parts = ["MAJOR", "MINOR", "PATCH"].into_iter().zip(version.split('.'));
+    let parts = ["MAJOR", "MINOR", "PATCH"]
+        .into_iter()
+        .zip(version.split('.'));
     for (part, number) in parts {
         let line = format!("#define SPLICEREEL_VERSION_{part} {number}\n");
         assert!(HEADER.contains(&line), "{line}");

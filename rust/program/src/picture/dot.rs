@@ -14,7 +14,12 @@ pub fn dot(scene: &Scene) -> String {
     let mut out = head(scene);
     // Writing to a string does not fail, here and below.
     for (number, node) in scene.nodes.iter().enumerate() {
-        let _ = writeln!(out, "  {number} [label={}{}];", quoted(&node.name), marked(scene, number));
+        let _ = writeln!(
+            out,
+            "  {number} [label={}{}];",
+            quoted(&node.name),
+            marked(scene, number)
+        );
     }
     for (number, street) in scene.streets.iter().enumerate() {
         let name = quoted(street.name.as_deref().unwrap_or(""));
@@ -24,18 +29,31 @@ pub fn dot(scene: &Scene) -> String {
             Ways::BToA => Some(false),
             Ways::Both => None,
         };
-        let _ = writeln!(out, "  {}, {}, label={name}, tooltip={words}];", laid(street, arrow), ink(street.level));
+        let _ = writeln!(
+            out,
+            "  {}, {}, label={name}, tooltip={words}];",
+            laid(street, arrow),
+            ink(street.level)
+        );
     }
     for (place, ride) in scene.route.iter().enumerate() {
         let laid = laid(&scene.streets[ride.street], Some(!ride.backward));
-        let _ = writeln!(out, "  {laid}, color=\"{DARK}\", penwidth=2, label=\"{}\"];", place + 1);
+        let _ = writeln!(
+            out,
+            "  {laid}, color=\"{DARK}\", penwidth=2, label=\"{}\"];",
+            place + 1
+        );
     }
     out += &legend();
     out + "}\n"
 }
 
 fn head(scene: &Scene) -> String {
-    let title: Vec<&str> = [&scene.name, &scene.caption].into_iter().flatten().map(String::as_str).collect();
+    let title: Vec<&str> = [&scene.name, &scene.caption]
+        .into_iter()
+        .flatten()
+        .map(String::as_str)
+        .collect();
     format!(
         "digraph town {{\n  graph [label={}, labelloc=t, fontname=\"sans-serif\", nodesep=0.6, ranksep=0.6];\n  \
          node [shape=box, style=rounded, width=0.3, height=0.3, margin=\"0.06,0.03\", fontname=\"sans-serif\", fontsize=11, color=\"{DARK}\"];\n  \
@@ -47,7 +65,9 @@ fn head(scene: &Scene) -> String {
 /// Where the question begins and where it ends.
 fn marked(scene: &Scene, node: usize) -> String {
     match scene.asked {
-        Some((from, _)) if node == from => format!(", style=\"rounded,filled\", fillcolor=\"{DARK}\", fontcolor=\"#FFFFFF\""),
+        Some((from, _)) if node == from => {
+            format!(", style=\"rounded,filled\", fillcolor=\"{DARK}\", fontcolor=\"#FFFFFF\"")
+        }
         Some((_, to)) if node == to => ", peripheries=2".into(),
         _ => String::new(),
     }
@@ -62,14 +82,21 @@ fn laid(street: &Street, from_a: Option<bool>) -> String {
     // As far as the legs tell, B lies in this direction.
     let toward = compass(a.leg) - compass(b.leg);
     let upright = toward.y.abs() >= 0.5 * toward.x.abs();
-    let a_first = if upright { toward.y >= 0.0 } else { toward.x >= 0.0 };
+    let a_first = if upright {
+        toward.y >= 0.0
+    } else {
+        toward.x >= 0.0
+    };
     let end = |node: usize, leg: u8| match a.node == b.node {
         true => format!("{node}:{}", POINTS[usize::from(leg % 8)]),
         false => node.to_string(),
     };
     let (a, b) = (end(a.node, a.leg), end(b.node, b.leg));
     let (first, second) = if a_first { (a, b) } else { (b, a) };
-    let arrow = from_a.map_or("none", |from_a| if from_a == a_first { "forward" } else { "back" });
+    let arrow = from_a.map_or(
+        "none",
+        |from_a| if from_a == a_first { "forward" } else { "back" },
+    );
     let level = if upright { "" } else { ", minlen=0, weight=2" };
     format!("{first} -> {second} [dir={arrow}{level}")
 }
@@ -82,14 +109,22 @@ fn ink(level: u8) -> String {
             Some((dash, gap)) if dash > gap => "dashed",
             Some(_) => "dotted",
         };
-        format!("color=\"{}\", penwidth={:.1}, style={style}", ink.colour, ink.width * 0.7)
+        format!(
+            "color=\"{}\", penwidth={:.1}, style={style}",
+            ink.colour,
+            ink.width * 0.7
+        )
     })
 }
 
 fn legend() -> String {
     let mut out = "  subgraph cluster_legend {\n    label=\"levels\"; fontsize=11; color=\"#BBBBBB\"; node [shape=point, width=0.02];\n".to_string();
     for level in 1..=4 {
-        let _ = writeln!(out, "    from_{level} -> to_{level} [dir=none, {}, label=\" {level}\"];", ink(level));
+        let _ = writeln!(
+            out,
+            "    from_{level} -> to_{level} [dir=none, {}, label=\" {level}\"];",
+            ink(level)
+        );
     }
     out + "  }\n"
 }

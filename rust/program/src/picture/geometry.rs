@@ -74,7 +74,10 @@ pub struct Rect {
 impl Rect {
     /// The rectangle of one point.
     pub fn of(point: Point) -> Rect {
-        Rect { low: point, high: point }
+        Rect {
+            low: point,
+            high: point,
+        }
     }
 
     /// The rectangle round points; round the origin where there are none.
@@ -93,7 +96,10 @@ impl Rect {
 
     /// Wider by so much on every side.
     pub fn wider(self, by: f64) -> Rect {
-        Rect { low: self.low - at(by, by), high: self.high + at(by, by) }
+        Rect {
+            low: self.low - at(by, by),
+            high: self.high + at(by, by),
+        }
     }
 
     pub fn width(self) -> f64 {
@@ -145,7 +151,9 @@ const STEPS: u32 = 16;
 
 impl Line {
     pub fn straight(from: Point, to: Point) -> Line {
-        Line { points: vec![from, to] }
+        Line {
+            points: vec![from, to],
+        }
     }
 
     /// Curves one after another, each from where the last ended: two points
@@ -157,7 +165,10 @@ impl Line {
             points.extend((1..=STEPS).map(|step| {
                 let t = f64::from(step) / f64::from(STEPS);
                 let s = 1.0 - t;
-                start * (s * s * s) + first * (3.0 * s * s * t) + second * (3.0 * s * t * t) + end * (t * t * t)
+                start * (s * s * s)
+                    + first * (3.0 * s * s * t)
+                    + second * (3.0 * s * t * t)
+                    + end * (t * t * t)
             }));
             start = end;
         }
@@ -165,7 +176,9 @@ impl Line {
     }
 
     pub fn reversed(&self) -> Line {
-        Line { points: self.points.iter().rev().copied().collect() }
+        Line {
+            points: self.points.iter().rev().copied().collect(),
+        }
     }
 
     pub fn length(&self) -> f64 {
@@ -211,9 +224,14 @@ impl Line {
     pub fn shifted(&self, by: f64) -> Line {
         let last = self.points.len() - 1;
         let shifted = (0..=last).map(|i| {
-            let (before, after) = (self.points[i.saturating_sub(1)], self.points[last.min(i + 1)]);
+            let (before, after) = (
+                self.points[i.saturating_sub(1)],
+                self.points[last.min(i + 1)],
+            );
             self.points[i] + (after - before).unit().right() * by
         });
-        Line { points: shifted.collect() }
+        Line {
+            points: shifted.collect(),
+        }
     }
 }

@@ -15,10 +15,30 @@ pub struct Ink {
 /// The levels' inks, from 1 to 4: colours of Okabe and Ito, which colour-blind
 /// readers can tell apart.
 pub const INKS: [Ink; 4] = [
-    Ink { level: 1, colour: "#009E73", width: 3.0, dashes: None },
-    Ink { level: 2, colour: "#0072B2", width: 6.0, dashes: None },
-    Ink { level: 3, colour: "#E69F00", width: 6.0, dashes: Some((16, 5)) },
-    Ink { level: 4, colour: "#D55E00", width: 8.0, dashes: Some((4, 4)) },
+    Ink {
+        level: 1,
+        colour: "#009E73",
+        width: 3.0,
+        dashes: None,
+    },
+    Ink {
+        level: 2,
+        colour: "#0072B2",
+        width: 6.0,
+        dashes: None,
+    },
+    Ink {
+        level: 3,
+        colour: "#E69F00",
+        width: 6.0,
+        dashes: Some((16, 5)),
+    },
+    Ink {
+        level: 4,
+        colour: "#D55E00",
+        width: 8.0,
+        dashes: Some((4, 4)),
+    },
 ];
 
 /// The route, names and frames.

@@ -63,23 +63,45 @@ fn wrapped(name: &str) -> Vec<String> {
 
 /// To the right, to the left and in the middle; above, below and beside.
 const SIDES: [(f64, f64); 8] = [
-    (1.0, -1.0), (1.0, 1.0), (-1.0, -1.0), (-1.0, 1.0), (1.0, 0.0), (-1.0, 0.0), (0.0, -1.0), (0.0, 1.0),
+    (1.0, -1.0),
+    (1.0, 1.0),
+    (-1.0, -1.0),
+    (-1.0, 1.0),
+    (1.0, 0.0),
+    (-1.0, 0.0),
+    (0.0, -1.0),
+    (0.0, 1.0),
 ];
 
 /// A name at one side of its node, so far from it.
 fn beside(node: Point, lines: &[String], (right, below): (f64, f64), apart: f64) -> Label {
-    let wide = lines.iter().map(|line| width(line, SIZE)).fold(0.0, f64::max);
+    let wide = lines
+        .iter()
+        .map(|line| width(line, SIZE))
+        .fold(0.0, f64::max);
     let high = LEADING * lines.len() as f64;
-    let slanted = if right != 0.0 && below != 0.0 { 0.7 } else { 1.0 };
+    let slanted = if right != 0.0 && below != 0.0 {
+        0.7
+    } else {
+        1.0
+    };
     let corner = node + at(right, below) * (apart * slanted);
     let low = corner + at((right - 1.0) / 2.0 * wide, (below - 1.0) / 2.0 * high);
-    let frame = Rect { low, high: low + at(wide, high) };
+    let frame = Rect {
+        low,
+        high: low + at(wide, high),
+    };
     let anchor = match right {
         r if r > 0.0 => Anchor::Start,
         r if r < 0.0 => Anchor::End,
         _ => Anchor::Middle,
     };
-    Label { lines: lines.to_vec(), anchor, start: at(corner.x, low.y + SIZE * 0.9), frame }
+    Label {
+        lines: lines.to_vec(),
+        anchor,
+        start: at(corner.x, low.y + SIZE * 0.9),
+        frame,
+    }
 }
 
 /// What names should not cover.
@@ -93,14 +115,24 @@ impl Covered {
     /// How much a name there would cover: another name and a node are worse
     /// than a bit of a street.
     fn by(&self, frame: Rect) -> f64 {
-        let meeting = |others: &[Rect]| others.iter().filter(|other| frame.meets(**other)).count() as f64;
+        let meeting =
+            |others: &[Rect]| others.iter().filter(|other| frame.meets(**other)).count() as f64;
         let round = frame.wider(3.0);
-        let near = self.streets.iter().filter(|(whole, _)| whole.wider(1.0).meets(round));
+        let near = self
+            .streets
+            .iter()
+            .filter(|(whole, _)| whole.wider(1.0).meets(round));
         let street = |line: &Line| {
             let length: f64 = line.pieces().map(|(from, to)| round.holds(from, to)).sum();
-            if length > 0.0 { 1.0 + length / 20.0 } else { 0.0 }
+            if length > 0.0 {
+                1.0 + length / 20.0
+            } else {
+                0.0
+            }
         };
-        6.0 * meeting(&self.names) + 4.0 * meeting(&self.nodes) + near.map(|(_, line)| street(line)).sum::<f64>()
+        6.0 * meeting(&self.names)
+            + 4.0 * meeting(&self.nodes)
+            + near.map(|(_, line)| street(line)).sum::<f64>()
     }
 }
 
@@ -111,13 +143,19 @@ pub fn labels(scene: &Scene, map: &Map, ridden: &[Line]) -> Vec<Label> {
     let whole = |line: &Line| Rect::round(line.points.iter().copied());
     let mut covered = Covered {
         names: Vec::new(),
-        nodes: map.places.iter().map(|place| Rect::of(*place).wider(5.0)).collect(),
+        nodes: map
+            .places
+            .iter()
+            .map(|place| Rect::of(*place).wider(5.0))
+            .collect(),
         streets: lines.map(|line| (whole(line), line.clone())).collect(),
     };
     let mut labels = Vec::with_capacity(scene.nodes.len());
     for (node, place) in scene.nodes.iter().zip(&map.places) {
         let lines = wrapped(&node.name);
-        let near = APART.into_iter().flat_map(|apart| SIDES.map(|side| (side, apart)));
+        let near = APART
+            .into_iter()
+            .flat_map(|apart| SIDES.map(|side| (side, apart)));
         let near = near.map(|(side, apart)| beside(*place, &lines, side, apart));
         let weighed = near.map(|label| (covered.by(label.frame), label));
         // Of several that cover as much, the first.

@@ -30,14 +30,24 @@ impl Map {
     /// The map of a scene whose nodes have places.
     pub fn of(scene: &Scene) -> Map {
         let feet = scene.nodes.iter().map(|node| node.place.unwrap_or((0, 0)));
-        let feet: Vec<Point> = feet.map(|(east, north)| at(east.into(), -f64::from(north))).collect();
+        let feet: Vec<Point> = feet
+            .map(|(east, north)| at(east.into(), -f64::from(north)))
+            .collect();
         let foot = foot(scene, &feet);
         let places: Vec<Point> = feet.iter().map(|place| *place * foot).collect();
-        let mut lines: Vec<Line> = scene.streets.iter().map(|street| round_trip(street, &places)).collect();
+        let mut lines: Vec<Line> = scene
+            .streets
+            .iter()
+            .map(|street| round_trip(street, &places))
+            .collect();
         for fan in fans(scene, &places) {
             fan.spread(scene, &places, &mut lines);
         }
-        Map { places, lines, foot }
+        Map {
+            places,
+            lines,
+            foot,
+        }
     }
 
     /// The rectangle round all of it.
@@ -54,7 +64,10 @@ fn foot(scene: &Scene, places: &[Point]) -> f64 {
     if span == 0.0 {
         return 1.0;
     }
-    let lengths = scene.streets.iter().map(|street| (places[street.b.node] - places[street.a.node]).length());
+    let lengths = scene
+        .streets
+        .iter()
+        .map(|street| (places[street.b.node] - places[street.a.node]).length());
     let mut lengths: Vec<f64> = lengths.filter(|length| *length > 0.0).collect();
     lengths.sort_by(f64::total_cmp);
     let middle = lengths.get(lengths.len() / 2).copied().unwrap_or(span);
@@ -68,10 +81,20 @@ fn round_trip(street: &Street, places: &[Point]) -> Line {
     let (leaves, returns) = (compass(street.a.leg), compass(street.b.leg));
     let between = leaves + returns;
     // Opposite legs have two sides between them: one is taken.
-    let middle = if between.length() < 0.1 { leaves.right() } else { between.unit() };
+    let middle = if between.length() < 0.1 {
+        leaves.right()
+    } else {
+        between.unit()
+    };
     let aside = leaves - middle * leaves.dot(middle);
     let (far, aside) = (node + middle * (1.5 * LOOP), aside.unit() * LOOP);
-    Line::curved(node, &[[node + leaves * LOOP, far + aside, far], [far - aside, node + returns * LOOP, node]])
+    Line::curved(
+        node,
+        &[
+            [node + leaves * LOOP, far + aside, far],
+            [far - aside, node + returns * LOOP, node],
+        ],
+    )
 }
 
 /// The streets that join two nodes which lie apart.
@@ -98,7 +121,13 @@ impl Fan {
     fn spread(mut self, scene: &Scene, places: &[Point], lines: &mut [Line]) {
         let (start, end) = (places[self.from], places[self.to]);
         let ahead = (end - start).unit();
-        let leg = |street: &Street| if street.a.node == self.from { street.a.leg } else { street.b.leg };
+        let leg = |street: &Street| {
+            if street.a.node == self.from {
+                street.a.leg
+            } else {
+                street.b.leg
+            }
+        };
         // From behind on the left, clockwise to behind on the right.
         let turned = |leg: u8| {
             let out = compass(leg);

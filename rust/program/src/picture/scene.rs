@@ -61,7 +61,10 @@ impl Scene {
         let Some(street) = self.streets.get(number) else {
             return String::new();
         };
-        let name = street.name.as_deref().map_or_else(String::new, |name| format!("{name}, "));
+        let name = street
+            .name
+            .as_deref()
+            .map_or_else(String::new, |name| format!("{name}, "));
         format!("{name}segment {number}: level {}", street.level)
     }
 }

@@ -26,25 +26,41 @@ pub fn svg(scene: &Scene) -> String {
     let map = Map::of(scene);
     let ridden = ridden(scene, &map);
     let labels = labels(scene, &map, &ridden);
-    let inner = labels.iter().fold(map.frame(), |frame, label| frame.and(label.frame)).wider(MARGIN);
+    let inner = labels
+        .iter()
+        .fold(map.frame(), |frame, label| frame.and(label.frame))
+        .wider(MARGIN);
     let heading = heading(scene, inner);
     let legend = legend(scene, &map, heading.frame);
     let Rect { low, high } = legend.frame;
     let (wide, high) = (high.x - low.x, high.y - low.y);
     let name = scene.name.as_deref().unwrap_or("A town");
-    let caption = scene.caption.as_ref().map_or_else(String::new, |caption| format!(": {caption}"));
+    let caption = scene
+        .caption
+        .as_ref()
+        .map_or_else(String::new, |caption| format!(": {caption}"));
     let mut out = String::new();
     // Writing to a string does not fail, here and below.
     let _ = writeln!(
         out,
         "<svg xmlns=\"http://www.w3.org/2000/svg\" viewBox=\"{} {} {} {}\" width=\"{2}\" height=\"{3}\" font-family=\"sans-serif\" font-size=\"{SIZE}\" fill=\"{DARK}\">",
-        number(low.x), number(low.y), number(wide), number(high),
+        number(low.x),
+        number(low.y),
+        number(wide),
+        number(high),
     );
-    let _ = writeln!(out, "<title>{}</title>", escaped(&format!("{name}{caption}")));
+    let _ = writeln!(
+        out,
+        "<title>{}</title>",
+        escaped(&format!("{name}{caption}"))
+    );
     let _ = writeln!(
         out,
         "<rect x=\"{}\" y=\"{}\" width=\"{}\" height=\"{}\" fill=\"#FFFFFF\"/>",
-        number(low.x), number(low.y), number(wide), number(high),
+        number(low.x),
+        number(low.y),
+        number(wide),
+        number(high),
     );
     out += &heading.svg;
     write_streets(&mut out, scene, &map);
@@ -94,7 +110,11 @@ fn points(first: char, line: &Line) -> String {
 fn ridden(scene: &Scene, map: &Map) -> Vec<Line> {
     let ridden = scene.route.iter().map(|ride| {
         let line = &map.lines[ride.street];
-        let line = if ride.backward { line.reversed() } else { line.clone() };
+        let line = if ride.backward {
+            line.reversed()
+        } else {
+            line.clone()
+        };
         line.trimmed(CORNER.min(line.length() * 0.3)).shifted(ASIDE)
     });
     ridden.collect()
@@ -108,8 +128,13 @@ struct Part {
 
 /// Title and caption above the map.
 fn heading(scene: &Scene, map: Rect) -> Part {
-    let lines = [(&scene.name, TITLE_SIZE, "bold"), (&scene.caption, CAPTION_SIZE, "normal")];
-    let lines = lines.into_iter().filter_map(|(words, size, weight)| Some((cut(words.as_ref()?, MOST_TITLE), size, weight)));
+    let lines = [
+        (&scene.name, TITLE_SIZE, "bold"),
+        (&scene.caption, CAPTION_SIZE, "normal"),
+    ];
+    let lines = lines
+        .into_iter()
+        .filter_map(|(words, size, weight)| Some((cut(words.as_ref()?, MOST_TITLE), size, weight)));
     let mut lines: Vec<(String, f64, &str)> = lines.collect();
     lines.reverse();
     let (mut svg, mut frame) = (String::new(), map);
@@ -118,9 +143,14 @@ fn heading(scene: &Scene, map: Rect) -> Part {
         let _ = writeln!(
             svg,
             "<text x=\"{}\" y=\"{}\" font-size=\"{size}\" font-weight=\"{weight}\">{}</text>",
-            number(foot.x), number(foot.y), escaped(&words),
+            number(foot.x),
+            number(foot.y),
+            escaped(&words),
         );
-        frame = frame.and(Rect { low: foot - at(0.0, 1.6 * size), high: foot + at(width(&words, size) + MARGIN, 0.0) });
+        frame = frame.and(Rect {
+            low: foot - at(0.0, 1.6 * size),
+            high: foot + at(width(&words, size) + MARGIN, 0.0),
+        });
     }
     Part { svg, frame }
 }
@@ -128,11 +158,20 @@ fn heading(scene: &Scene, map: Rect) -> Part {
 /// The streets, the widest first, so that none hides another at a corner.
 fn write_streets(out: &mut String, scene: &Scene, map: &Map) {
     for ink in INKS.iter().rev() {
-        let _ = writeln!(out, "<g id=\"level-{}\" fill=\"none\" {}>", ink.level, stroke(ink));
+        let _ = writeln!(
+            out,
+            "<g id=\"level-{}\" fill=\"none\" {}>",
+            ink.level,
+            stroke(ink)
+        );
         for (number, (street, line)) in scene.streets.iter().zip(&map.lines).enumerate() {
             if street.level == ink.level {
                 let words = escaped(&scene.street_words(number));
-                let _ = writeln!(out, "<path d=\"{}\"><title>{words}</title></path>", points('M', line));
+                let _ = writeln!(
+                    out,
+                    "<path d=\"{}\"><title>{words}</title></path>",
+                    points('M', line)
+                );
             }
         }
         *out += "</g>\n";
@@ -140,8 +179,13 @@ fn write_streets(out: &mut String, scene: &Scene, map: &Map) {
 }
 
 fn stroke(ink: &Ink) -> String {
-    let dashes = ink.dashes.map_or_else(String::new, |(dash, gap)| format!(" stroke-dasharray=\"{dash} {gap}\""));
-    format!("stroke=\"{}\" stroke-width=\"{}\"{dashes}", ink.colour, ink.width)
+    let dashes = ink.dashes.map_or_else(String::new, |(dash, gap)| {
+        format!(" stroke-dasharray=\"{dash} {gap}\"")
+    });
+    format!(
+        "stroke=\"{}\" stroke-width=\"{}\"{dashes}",
+        ink.colour, ink.width
+    )
 }
 
 /// White behind the names that stand over a street.
@@ -151,7 +195,10 @@ fn write_papers(out: &mut String, labels: &[Label]) {
         let _ = writeln!(
             out,
             "<rect x=\"{}\" y=\"{}\" width=\"{}\" height=\"{}\"/>",
-            number(frame.low.x), number(frame.low.y), number(frame.width()), number(frame.height()),
+            number(frame.low.x),
+            number(frame.low.y),
+            number(frame.width()),
+            number(frame.height()),
         );
     }
     *out += "</g>\n";
@@ -159,14 +206,30 @@ fn write_papers(out: &mut String, labels: &[Label]) {
 
 /// An arrowhead so long whose middle is at a point.
 fn arrow(middle: Point, direction: Point, long: f64) -> String {
-    let (tip, tail) = (middle + direction * (long * 0.5), middle - direction * (long * 0.5));
+    let (tip, tail) = (
+        middle + direction * (long * 0.5),
+        middle - direction * (long * 0.5),
+    );
     let side = direction.right() * (long * 0.45);
-    points('M', &Line { points: vec![tip, tail + side, middle - direction * (long * 0.25), tail - side] }) + "Z"
+    points(
+        'M',
+        &Line {
+            points: vec![
+                tip,
+                tail + side,
+                middle - direction * (long * 0.25),
+                tail - side,
+            ],
+        },
+    ) + "Z"
 }
 
 /// An arrow in the middle of each street that is open one way.
 fn write_one_ways(out: &mut String, scene: &Scene, map: &Map) {
-    let _ = writeln!(out, "<g id=\"one-way\" fill=\"#FFFFFF\" stroke=\"{DARK}\" stroke-width=\"1.5\">");
+    let _ = writeln!(
+        out,
+        "<g id=\"one-way\" fill=\"#FFFFFF\" stroke=\"{DARK}\" stroke-width=\"1.5\">"
+    );
     for (street, line) in scene.streets.iter().zip(&map.lines) {
         let line = match street.ways {
             Ways::Both => continue,
@@ -184,19 +247,36 @@ fn write_route(out: &mut String, scene: &Scene, map: &Map, ridden: &[Line]) {
     let (Some((from, to)), false) = (scene.asked, ridden.is_empty()) else {
         return;
     };
-    let mut path = points('M', &Line { points: vec![map.places[from]] });
+    let mut path = points(
+        'M',
+        &Line {
+            points: vec![map.places[from]],
+        },
+    );
     path += &points('L', &ridden[0]);
     for (ride, pair) in scene.route.iter().zip(ridden.windows(2)) {
         let street = &scene.streets[ride.street];
-        let node = if ride.backward { street.a.node } else { street.b.node };
+        let node = if ride.backward {
+            street.a.node
+        } else {
+            street.b.node
+        };
         let bend = corner(map.places[node], &pair[0], &pair[1]);
         let _ = write!(path, "Q{} {} ", number(bend.x), number(bend.y));
         path += points(' ', &pair[1]).trim_start();
     }
-    path += &points('L', &Line { points: vec![map.places[to]] });
+    path += &points(
+        'L',
+        &Line {
+            points: vec![map.places[to]],
+        },
+    );
     *out += "<g id=\"route\" stroke-linejoin=\"round\" stroke-linecap=\"round\">\n";
     for (colour, width) in [("#FFFFFF", 7), (DARK, 3)] {
-        let _ = writeln!(out, "<path fill=\"none\" stroke=\"{colour}\" stroke-width=\"{width}\" d=\"{path}\"/>");
+        let _ = writeln!(
+            out,
+            "<path fill=\"none\" stroke=\"{colour}\" stroke-width=\"{width}\" d=\"{path}\"/>"
+        );
     }
     for line in ridden {
         let (middle, direction) = line.along(line.length() * 0.65);
@@ -225,7 +305,9 @@ fn write_nodes(out: &mut String, scene: &Scene, map: &Map, labels: &[Label]) {
     }
     *out += "</g>\n<g id=\"names\">\n";
     for (node, label) in labels.iter().enumerate() {
-        let asked = scene.asked.is_some_and(|(from, to)| node == from || node == to);
+        let asked = scene
+            .asked
+            .is_some_and(|(from, to)| node == from || node == to);
         *out += &name(label, asked);
     }
     *out += "</g>\n";
@@ -240,7 +322,8 @@ fn circle(place: Point, asked: Option<(usize, usize)>, node: usize) -> String {
     };
     format!(
         "<circle cx=\"{}\" cy=\"{}\" r=\"{radius}\" fill=\"{fill}\" stroke-width=\"{width}\"/>\n",
-        number(place.x), number(place.y),
+        number(place.x),
+        number(place.y),
     )
 }
 
@@ -257,7 +340,9 @@ fn name(label: &Label, bold: bool) -> String {
         let _ = writeln!(
             out,
             "<text x=\"{}\" y=\"{}\" text-anchor=\"{anchor}\"{weight}>{}</text>",
-            number(label.start.x), number(below), escaped(line),
+            number(label.start.x),
+            number(below),
+            escaped(line),
         );
     }
     out
@@ -287,12 +372,21 @@ fn legend(scene: &Scene, map: &Map, above: Rect) -> Part {
         let _ = writeln!(
             svg,
             "{}<text x=\"{}\" y=\"{}\">{}</text>",
-            drawn(place), number(place.x + wide + 8.0), number(place.y + SIZE * 0.35), escaped(&words),
+            drawn(place),
+            number(place.x + wide + 8.0),
+            number(place.y + SIZE * 0.35),
+            escaped(&words),
         );
-        frame = frame.and(Rect { low: place, high: place + at(full + MARGIN, ROW) });
+        frame = frame.and(Rect {
+            low: place,
+            high: place + at(full + MARGIN, ROW),
+        });
         place.x += full + 22.0;
     }
-    Part { svg: svg + "</g>\n", frame }
+    Part {
+        svg: svg + "</g>\n",
+        frame,
+    }
 }
 
 fn entries(scene: &Scene, map: &Map) -> Vec<Entry> {
@@ -303,10 +397,20 @@ fn entries(scene: &Scene, map: &Map) -> Vec<Entry> {
             format!("<path {stroke} d=\"{}\"/>", points('M', &line))
         }
     };
-    let entry = |wide: f64, words: &str, drawn: Box<dyn Fn(Point) -> String>| Entry { drawn, wide, words: words.into() };
+    let entry = |wide: f64, words: &str, drawn: Box<dyn Fn(Point) -> String>| Entry {
+        drawn,
+        wide,
+        words: words.into(),
+    };
     let mut entries: Vec<Entry> = INKS
         .iter()
-        .map(|ink| entry(WIDE, &format!("level {}", ink.level), Box::new(line(stroke(ink)))))
+        .map(|ink| {
+            entry(
+                WIDE,
+                &format!("level {}", ink.level),
+                Box::new(line(stroke(ink))),
+            )
+        })
         .collect();
     if scene.streets.iter().any(|street| street.ways != Ways::Both) {
         let drawn = |place: Point| {
@@ -325,11 +429,27 @@ fn entries(scene: &Scene, map: &Map) -> Vec<Entry> {
     }
     let (feet, wide) = scale(map.foot);
     let drawn = move |place: Point| {
-        let ends = [at(0.0, -4.0), at(0.0, 4.0), at(0.0, 0.0), at(wide, 0.0), at(wide, -4.0), at(wide, 4.0)];
-        let line = Line { points: ends.map(|end| place + end).to_vec() };
-        format!("<path fill=\"none\" stroke=\"{DARK}\" d=\"{}\"/>", points('M', &line))
+        let ends = [
+            at(0.0, -4.0),
+            at(0.0, 4.0),
+            at(0.0, 0.0),
+            at(wide, 0.0),
+            at(wide, -4.0),
+            at(wide, 4.0),
+        ];
+        let line = Line {
+            points: ends.map(|end| place + end).to_vec(),
+        };
+        format!(
+            "<path fill=\"none\" stroke=\"{DARK}\" d=\"{}\"/>",
+            points('M', &line)
+        )
     };
-    entries.push(entry(wide, &format!("{feet} ft, north is up"), Box::new(drawn)));
+    entries.push(entry(
+        wide,
+        &format!("{feet} ft, north is up"),
+        Box::new(drawn),
+    ));
     entries
 }
 
@@ -337,7 +457,13 @@ fn entries(scene: &Scene, map: &Map) -> Vec<Entry> {
 fn scale(foot: f64) -> (u64, f64) {
     const MOST: f64 = 130.0;
     let mut feet = 1;
-    for factor in [2, 5, 10].into_iter().cycle().enumerate().map(|(place, factor)| factor * 10_u64.pow(place as u32 / 3)).take(24) {
+    for factor in [2, 5, 10]
+        .into_iter()
+        .cycle()
+        .enumerate()
+        .map(|(place, factor)| factor * 10_u64.pow(place as u32 / 3))
+        .take(24)
+    {
         if factor as f64 * foot <= MOST {
             feet = factor;
         }

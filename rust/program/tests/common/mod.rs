@@ -63,7 +63,9 @@ impl Json {
             panic!("no object: {self:?}");
         };
         let field = fields.iter().find(|(other, _)| other == name);
-        &field.unwrap_or_else(|| panic!("no field {name}: {self:?}")).1
+        &field
+            .unwrap_or_else(|| panic!("no field {name}: {self:?}"))
+            .1
     }
 
     pub fn list(&self) -> &[Json] {
@@ -86,7 +88,9 @@ impl Json {
 }
 
 fn expect(rest: &mut &str, what: &str) {
-    *rest = rest.strip_prefix(what).unwrap_or_else(|| panic!("{what} is due at {rest}"));
+    *rest = rest
+        .strip_prefix(what)
+        .unwrap_or_else(|| panic!("{what} is due at {rest}"));
 }
 
 fn value(rest: &mut &str) -> Json {
@@ -102,7 +106,10 @@ fn value(rest: &mut &str) -> Json {
             let end = rest.find([',', ']', '}']).unwrap_or(rest.len());
             let (word, after) = rest.split_at(end);
             let number = word.parse::<f64>().is_ok() && !word.starts_with('+');
-            assert!(number || ["null", "true", "false"].contains(&word), "{word}");
+            assert!(
+                number || ["null", "true", "false"].contains(&word),
+                "{word}"
+            );
             *rest = after;
             Json::Plain(word.into())
         }
@@ -154,10 +161,18 @@ pub const SEGMENTS: &str = "| segment | street | A | A leg | B | B leg | feet | 
 /// if it is asked for.
 pub fn table(town: &Town, map: bool) -> String {
     let mut table = "# Some town\n\nWords that say nothing.\n\n".to_string();
-    table += if map { "| node | place | x | y |\n|---|---|---|---|\n" } else { "| node | place |\n|---|---|\n" };
+    table += if map {
+        "| node | place | x | y |\n|---|---|---|---|\n"
+    } else {
+        "| node | place |\n|---|---|\n"
+    };
     for node in 0..i32::from(town.nodes) {
         let (x, y) = (node % 30 * 400 - 3_000, node / 30 * 300);
-        table += &if map { format!("| {node} | Place {node} | {x} | {y} |\n") } else { format!("| {node} | Place {node} |\n") };
+        table += &if map {
+            format!("| {node} | Place {node} | {x} | {y} |\n")
+        } else {
+            format!("| {node} | Place {node} |\n")
+        };
     }
     table += "\n";
     table += SEGMENTS;
@@ -168,16 +183,34 @@ pub fn table(town: &Town, map: bool) -> String {
 }
 
 fn row(number: usize, segment: &Segment) -> String {
-    let Segment { a, b, length, lanes, speed, reach, .. } = segment;
+    let Segment {
+        a,
+        b,
+        length,
+        lanes,
+        speed,
+        reach,
+        ..
+    } = segment;
     let form = ["mixed", "beside parking", "bike lane", "path"][usize::from(segment.form)];
     let ways = ["A to B", "B to A", "both"][usize::from(segment.ways) - 1];
     let names = ["centreline", "residential", "median", "blocked"];
     let marked = (0..4).filter(|bit| segment.marks >> bit & 1 == 1);
     let marks: Vec<&str> = marked.map(|bit| names[bit]).collect();
-    let marks = if marks.is_empty() { "-".into() } else { marks.join(", ") };
+    let marks = if marks.is_empty() {
+        "-".into()
+    } else {
+        marks.join(", ")
+    };
     format!(
         "| {number} | Street {} | {} | {} | {} | {} | {length} | {form} | {ways} | {lanes} | {speed} | {reach} | {marks} | {} | {} |\n",
-        number % 7, a.node, a.leg, b.node, b.leg, approach(&segment.at_b), approach(&segment.at_a)
+        number % 7,
+        a.node,
+        a.leg,
+        b.node,
+        b.leg,
+        approach(&segment.at_b),
+        approach(&segment.at_a)
     )
 }
 
@@ -190,6 +223,9 @@ fn approach(met: &Approach) -> String {
     let kind = ["", "straight", "shifts left", "no bike lane"][usize::from(met.turn)];
     match met.turn {
         0 => crossed,
-        _ => format!("{crossed}; {kind} {} ft {} mph", met.turn_length, met.turn_speed),
+        _ => format!(
+            "{crossed}; {kind} {} ft {} mph",
+            met.turn_length, met.turn_speed
+        ),
     }
 }
