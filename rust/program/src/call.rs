@@ -113,51 +113,59 @@ pub enum Request {
 
 /// Reads the words after the program's name.
 pub fn read(words: Vec<OsString>) -> Result<Request, Fault> {
-    let parted = part(words);
-    let option = |names: [&str; 2]| {
-        parted
-            .options
+    let Parted { options, plain } = part(words);
+    let has = |names: [&str; 2]| {
+        options
             .iter()
             .any(|option| names.contains(&option.as_str()))
     };
-    let mut plain = parted.plain.into_iter();
+    let mut plain = plain.into_iter();
     let command = plain.next().map(command).transpose()?;
-    if option(["--help", "-h"]) {
+    if has(["--help", "-h"]) {
         return Ok(Request::Help(command));
     }
-    if option(["--version", "-V"]) {
+    if has(["--version", "-V"]) {
         return Ok(Request::Version);
     }
-    if let Some(option) = parted.options.iter().find(|option| *option != "--json") {
+    if let Some(option) = options.iter().find(|option| *option != "--json") {
         return Err(Fault::new(unknown_option(option)));
     }
-    let Some(command) = command else {
-        return Err(Fault::new(format!(
-            "a command is missing: {}; see splicereel --help",
-            names()
-        )));
-    };
-    let json = !parted.options.is_empty();
+    match command {
+        Some(command) => call(command, !options.is_empty(), plain).map(Request::Do),
+        None => {
+            let words = format!("a command is missing: {}; see splicereel --help", names());
+            Err(Fault::new(words))
+        }
+    }
+}
+
+/// A command with the words after it.
+fn call(
+    command: Command,
+    json: bool,
+    mut words: impl Iterator<Item = OsString>,
+) -> Result<Call, Fault> {
     if json && !command.has_json() {
-        return Err(Fault::new(format!(
+        let words = format!(
             "{} has no --json; expected: {}",
             command.name(),
             command.line()
-        )));
+        );
+        return Err(Fault::new(words));
     }
-    let file = plain.next().ok_or_else(|| miscounted(command, 0))?;
-    let words: Vec<String> = plain
+    let file = words.next().ok_or_else(|| miscounted(command, 0))?;
+    let words: Vec<String> = words
         .map(|word| word.to_string_lossy().into_owned())
         .collect();
-    if !command.takes(words.len()) {
-        return Err(miscounted(command, 1 + words.len()));
+    match command.takes(words.len()) {
+        true => Ok(Call {
+            command,
+            json,
+            file,
+            words,
+        }),
+        false => Err(miscounted(command, 1 + words.len())),
     }
-    Ok(Request::Do(Call {
-        command,
-        json,
-        file,
-        words,
-    }))
 }
 
 /// The words that are options, and the others.

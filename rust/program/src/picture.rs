@@ -6,6 +6,8 @@ pub mod dot;
 mod geometry;
 mod ink;
 mod labels;
+mod legend;
 mod map;
+mod pieces;
 pub mod scene;
 pub mod svg;

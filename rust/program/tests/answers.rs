@@ -66,62 +66,45 @@ fn routes_are_the_oracles() {
 
 /// Asks for a route, and holds the answer to the oracle; whether there is one.
 fn routed(town: &Town, from: usize, to: usize, limit: &str) -> bool {
-    let oracle = Net::parse(&town.bytes()).expect("a network");
-    let words = [
-        "route",
-        "-",
-        &from.to_string(),
-        &to.to_string(),
-        limit,
-        "--json",
-    ];
-    let said = run(&words, &town.text());
-    let answer = Json::read(&said.out);
-    let tried = limit
-        .parse()
-        .map_or(1..=4, |tolerance| tolerance..=tolerance);
-    let movements = oracle.movements();
-    let least = |tolerances: std::ops::RangeInclusive<u8>| {
-        tolerances
-            .into_iter()
-            .find_map(|t| Some((t, oracle.lengths(&movements, from, t)[to]?)))
-    };
+    let (start, end) = (from.to_string(), to.to_string());
+    let said = run(&["route", "-", &start, &end, limit, "--json"], &town.text());
     assert_eq!(said.err, "");
-    let Some((tolerance, feet)) = least(tried) else {
-        assert_eq!(
-            (said.status, answer.get("answer").text()),
-            (Some(1), "none")
-        );
-        match least(1..=4) {
+    let answer = Json::read(&said.out);
+    let told = (said.status, answer.get("answer").text());
+    let oracle = Net::parse(&town.bytes()).expect("a network");
+    let movements = oracle.movements();
+    let feet = |tolerance: u8| oracle.lengths(&movements, from, tolerance)[to];
+    let least = (1..=4).find_map(|tolerance| Some((tolerance, feet(tolerance)?)));
+    let due = match limit.parse() {
+        Ok(tolerance) => feet(tolerance).map(|feet| (tolerance, feet)),
+        Err(_) => least,
+    };
+    let Some((tolerance, feet)) = due else {
+        assert_eq!(told, (Some(1), "none"));
+        match least {
+            Some(least) => same(answer.get("least"), least),
             None => assert_eq!(answer.get("least").text(), "null"),
-            Some((tolerance, feet)) => {
-                assert_eq!(
-                    answer.get("least").get("tolerance").number(),
-                    usize::from(tolerance)
-                );
-                assert_eq!(answer.get("least").get("feet").number(), feet as usize);
-            }
         }
         return false;
     };
-    assert_eq!(
-        (said.status, answer.get("answer").text()),
-        (Some(0), "found")
-    );
-    assert_eq!(answer.get("tolerance").number(), usize::from(tolerance));
-    assert_eq!(answer.get("feet").number(), feet as usize);
-    let runs: Vec<u16> = answer
+    assert_eq!(told, (Some(0), "found"));
+    same(&answer, (tolerance, feet));
+    let runs = answer
         .get("runs")
         .list()
         .iter()
-        .map(|run| run.get("run").number() as u16)
-        .collect();
-    let level = answer.get("level").number() as u8;
-    oracle
-        .check_route(from, to, tolerance, &runs, runs.len(), feet, level)
-        .expect("a route");
+        .map(|run| run.get("run").number() as u16);
+    let (runs, level): (Vec<u16>, usize) = (runs.collect(), answer.get("level").number());
+    let ridden = oracle.check_route(from, to, tolerance, &runs, runs.len(), feet, level as u8);
+    ridden.expect("a route");
     corners(town, &runs, answer.get("corners").list());
     true
+}
+
+/// An answer has this tolerance and length.
+fn same(answer: &Json, (tolerance, feet): (u8, u32)) {
+    assert_eq!(answer.get("tolerance").number(), usize::from(tolerance));
+    assert_eq!(answer.get("feet").number(), feet as usize);
 }
 
 /// Each corner's level is the oracle's, and so is what decided it: the part

@@ -169,10 +169,11 @@ const ODD: [&str; 12] = [
 
 /// The words of a call about a file.
 fn words(rng: &mut Rng, file: &str) -> Vec<String> {
-    let place = |rng: &mut Rng| match rng.below(4) {
-        0 => format!("Place {}", rng.below(40)),
-        1 => rng.pick(&ODD).to_string(),
-        _ => rng.below(30).to_string(),
+    let place = |rng: &mut Rng| match rng.below(12) {
+        0 => rng.pick(&ODD).to_string(),
+        1 | 2 => format!("Place {}", rng.below(12)),
+        3 => rng.below(1_200).to_string(),
+        _ => rng.below(6).to_string(),
     };
     let command = rng.pick(&["check", "levels", "route", "route", "draw", "draw", "text"]);
     let mut words = vec![command.to_string(), file.to_string()];

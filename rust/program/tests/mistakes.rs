@@ -139,6 +139,10 @@ fn rows_and_cells() {
         &mixed("- | - | nothing", "- | centerline | nothing"),
         "line 8: a mark is 'centerline', and must be one of: centreline, residential, median, blocked; did you mean centreline?",
     );
+}
+
+#[test]
+fn approaches() {
     table_says(
         &row("nothing |\n", "bridge |\n"),
         "line 8: at A is 'bridge', and must be one of: nothing, signal, no island, island, one-way",
@@ -159,60 +163,59 @@ fn rows_and_cells() {
 
 #[test]
 fn fields_against_the_rules() {
-    let refused = |line: usize, words: &str| format!("refused, number 4, line {line}: {words}");
+    let refused = |words: &str| format!("refused, number 4, line 8: {words}");
     table_says(
         &row("| 6 |", "| 600 |"),
-        &refused(8, "B leg is 600 and must be 0 to 7"),
+        &refused("B leg is 600 and must be 0 to 7"),
     );
     table_says(
         &row("| 1 | 6 |", "| 2 | 6 |"),
-        &refused(8, "B node is 2 and must be 0 to 1"),
+        &refused("B node is 2 and must be 0 to 1"),
     );
     table_says(
         &row("500", "52,801"),
-        &refused(8, "length is 52801 and must be 1 to 52800"),
+        &refused("length is 52801 and must be 1 to 52800"),
     );
     table_says(
         &row("500", "70000"),
-        &refused(8, "length is 70000 and must be 1 to 52800"),
+        &refused("length is 70000 and must be 1 to 52800"),
     );
     table_says(
         &mixed("| 2 | 25 |", "| - | 25 |"),
-        &refused(8, "lanes is 0 and must be 1 to 12 in mixed traffic"),
+        &refused("lanes is 0 and must be 1 to 12 in mixed traffic"),
     );
     table_says(
         &mixed("| 2 | 25 | - |", "| 2 | 25 | 9 |"),
-        &refused(8, "reach is 9 and must be 0 in mixed traffic"),
+        &refused("reach is 9 and must be 0 in mixed traffic"),
     );
     table_says(
         &row("path | both | -", "path | both | 2"),
-        &refused(8, "lanes is 2 and must be 0 on a separate path"),
+        &refused("lanes is 2 and must be 0 on a separate path"),
     );
     table_says(
         &row("nothing |\n", "island |\n"),
-        &refused(
-            8,
-            "lanes crossed at A is 0 and must be 1 to 12 where lanes are crossed",
-        ),
+        &refused("lanes crossed at A is 0 and must be 1 to 12 where lanes are crossed"),
     );
     table_says(
         &row("nothing |\n", "signal 4 lanes 30 mph |\n"),
-        &refused(8, "lanes crossed at A is 4 and must be 0 at a signal"),
+        &refused("lanes crossed at A is 4 and must be 0 at a signal"),
     );
     table_says(
         &row("nothing |\n", "nothing; straight |\n"),
-        &refused(
-            8,
-            "turn-lane length at A is 0 and must be 1 to 2000 with a turn lane",
-        ),
+        &refused("turn-lane length at A is 0 and must be 1 to 2000 with a turn lane"),
     );
+}
+
+#[test]
+fn counts() {
+    let refused = |words: &str| format!("refused, number 4, line 1: {words}");
     let no_nodes = with(ROW).replace("| 0 | here |\n| 1 | there |\n", "");
-    table_says(&no_nodes, &refused(1, "0 nodes: a town has 1 to 1000"));
+    table_says(&no_nodes, &refused("0 nodes: a town has 1 to 1000"));
     let many: String = (0..70_000)
         .map(|node| format!("| {node} | a |\n"))
         .collect();
     let many = with(ROW).replace("| 0 | here |\n| 1 | there |\n", &many);
-    table_says(&many, &refused(1, "70000 nodes: a town has 1 to 1000"));
+    table_says(&many, &refused("70000 nodes: a town has 1 to 1000"));
 }
 
 #[test]
@@ -277,84 +280,83 @@ fn files_in_another_encoding() {
     );
 }
 
+/// Network texts, and what is said of each.
+const TEXTS: [(&[u8], &str); 19] = [
+    (b"", "number 3, line 1: the file is empty: a head is due"),
+    (b"\n", "number 1, line 1: the line is empty: take it out"),
+    (
+        b"\xEF\xBB\xBF010100010000FD\n",
+        "number 1, line 1: a byte order mark (EF BB BF) stands before the first digit: save the file without one",
+    ),
+    (
+        b"\xFF\xFE0\x001\x00\n",
+        "number 1, line 1: the file is in UTF-16: save it as plain text, a byte for each digit",
+    ),
+    (
+        b"010100010000FD\r\n",
+        "number 1, line 1: a carriage return stands before the line feed: save the file with line feeds alone",
+    ),
+    (
+        b"010100010000FD",
+        "number 1, line 1: the line feed after the last line is missing",
+    ),
+    (
+        b"010100010000F",
+        "number 1, line 1: the file ends after 13 digits of this line: it was cut",
+    ),
+    (
+        b"010100010000F\n",
+        "number 1, line 1: the line has 13 digits: two make a byte, so one is missing or too many",
+    ),
+    (
+        b"010100010000fd\n",
+        "number 1, line 1: the small letter f at column 13 is no digit: digits are 0 to 9 and A to F",
+    ),
+    (
+        b"0101 0001\n",
+        "number 1, line 1: a blank at column 5 is no digit: digits are 0 to 9 and A to F",
+    ),
+    (
+        b"0101\x070001\n",
+        "number 1, line 1: byte 07 at column 5 is no digit: digits are 0 to 9 and A to F",
+    ),
+    (
+        b"010100010000FC\n",
+        "number 2, line 1: the check is FC, and the bytes before it need FD: one of the digits is wrong",
+    ),
+    (
+        b"0202FC\n",
+        "number 3, line 1: this is a segment, and the first line must be a head",
+    ),
+    (
+        b"0101FE\n",
+        "number 3, line 1: the line has 3 bytes, and a head has 7: digits are missing",
+    ),
+    (
+        b"010100010000FD\n010100010000FD\n",
+        "number 3, line 2: this is a head, and only the first line is one",
+    ),
+    (
+        b"010900010000F5\n",
+        "number 4, line 1: edition 09 is not known: 01 is",
+    ),
+    (
+        b"010100000000FE\n",
+        "number 4, line 1: 0 nodes: a town has 1 to 1000",
+    ),
+    (
+        b"0101000103E911\n",
+        "number 4, line 1: 1001 segments: a town has at most 1000",
+    ),
+    (
+        b"010100030003F8\n",
+        "number 5, line 2: the text ends after 0 of the 3 segments that the head counts: lines are missing",
+    ),
+];
+
 #[test]
 fn texts_that_are_refused() {
-    let first = b"010100030003F8\n";
-    for (text, due) in [
-        (
-            &b""[..],
-            "number 3, line 1: the file is empty: a head is due",
-        ),
-        (b"\n", "number 1, line 1: the line is empty: take it out"),
-        (
-            b"\xEF\xBB\xBF010100010000FD\n",
-            "number 1, line 1: a byte order mark (EF BB BF) stands before the first digit: save the file without one",
-        ),
-        (
-            b"\xFF\xFE0\x001\x00\n",
-            "number 1, line 1: the file is in UTF-16: save it as plain text, a byte for each digit",
-        ),
-        (
-            b"010100010000FD\r\n",
-            "number 1, line 1: a carriage return stands before the line feed: save the file with line feeds alone",
-        ),
-        (
-            b"010100010000FD",
-            "number 1, line 1: the line feed after the last line is missing",
-        ),
-        (
-            b"010100010000F",
-            "number 1, line 1: the file ends after 13 digits of this line: it was cut",
-        ),
-        (
-            b"010100010000F\n",
-            "number 1, line 1: the line has 13 digits: two make a byte, so one is missing or too many",
-        ),
-        (
-            b"010100010000fd\n",
-            "number 1, line 1: the small letter f at column 13 is no digit: digits are 0 to 9 and A to F",
-        ),
-        (
-            b"0101 0001\n",
-            "number 1, line 1: a blank at column 5 is no digit: digits are 0 to 9 and A to F",
-        ),
-        (
-            b"0101\x070001\n",
-            "number 1, line 1: byte 07 at column 5 is no digit: digits are 0 to 9 and A to F",
-        ),
-        (
-            b"010100010000FC\n",
-            "number 2, line 1: the check is FC, and the bytes before it need FD: one of the digits is wrong",
-        ),
-        (
-            b"0202FC\n",
-            "number 3, line 1: this is a segment, and the first line must be a head",
-        ),
-        (
-            b"0101FE\n",
-            "number 3, line 1: the line has 3 bytes, and a head has 7: digits are missing",
-        ),
-        (
-            b"010100010000FD\n010100010000FD\n",
-            "number 3, line 2: this is a head, and only the first line is one",
-        ),
-        (
-            b"010900010000F5\n",
-            "number 4, line 1: edition 09 is not known: 01 is",
-        ),
-        (
-            b"010100000000FE\n",
-            "number 4, line 1: 0 nodes: a town has 1 to 1000",
-        ),
-        (
-            b"0101000103E911\n",
-            "number 4, line 1: 1001 segments: a town has at most 1000",
-        ),
-        (
-            first,
-            "number 5, line 2: the text ends after 0 of the 3 segments that the head counts: lines are missing",
-        ),
-    ] {
+    for (text, due) in TEXTS {
         says(
             &["check", "-"],
             text,
@@ -363,76 +365,79 @@ fn texts_that_are_refused() {
     }
 }
 
+/// Calls about the table without mistakes, and what is said of each.
+const CALLS: [(&[&str], &str); 16] = [
+    (
+        &[],
+        "a command is missing: check, levels, route, draw, text; see splicereel --help",
+    ),
+    (
+        &["rout"],
+        "'rout' is no command; expected one of check, levels, route, draw, text; did you mean route?",
+    ),
+    (
+        &["--json"],
+        "a command is missing: check, levels, route, draw, text; see splicereel --help",
+    ),
+    (
+        &["\u{E9}"],
+        "'\u{E9}' is no command; expected one of check, levels, route, draw, text",
+    ),
+    (
+        &["x\u{1b}[31m"],
+        "'x\u{FFFD}[31m' is no command; expected one of check, levels, route, draw, text",
+    ),
+    (
+        &["check"],
+        "check: its words are missing; expected: splicereel check FILE",
+    ),
+    (
+        &["check", "-", "more"],
+        "check: 2 words are given; expected: splicereel check FILE",
+    ),
+    (
+        &["route", "-"],
+        "route: only a file is given; expected: splicereel route FILE FROM TO TOLERANCE|least",
+    ),
+    (
+        &["check", "-", "--jsn"],
+        "'--jsn' is no option; expected one of --json, --help, --version; did you mean --json?",
+    ),
+    (
+        &["draw", "-", "--json"],
+        "draw has no --json; expected: splicereel draw FILE [FROM TO TOLERANCE|least]",
+    ),
+    (
+        &["route", "-", "0", "1", "5"],
+        "standard input: TOLERANCE is '5', and must be 1, 2, 3, 4 or least",
+    ),
+    (
+        &["route", "-", "0", "1", "Least"],
+        "standard input: TOLERANCE is 'Least', and must be 1, 2, 3, 4 or least; did you mean least?",
+    ),
+    (
+        &["route", "-", "0", "ther", "1"],
+        "standard input: no place is called 'ther'; did you mean there?",
+    ),
+    (
+        &["route", "-", "0", "-1", "1"],
+        "standard input: no place is called '-1'",
+    ),
+    (
+        &["route", "-", "0", "2", "1"],
+        "standard input: refused, number 9: there is no node '2': nodes are 0 to 1",
+    ),
+    (
+        &["draw", "-", "7", "1", "1"],
+        "standard input: refused, number 9: there is no node '7': nodes are 0 to 1",
+    ),
+];
+
 #[test]
 fn wrong_calls() {
     let table = with(ROW);
     let input = table.as_bytes();
-    for (words, due) in [
-        (
-            &[][..],
-            "a command is missing: check, levels, route, draw, text; see splicereel --help",
-        ),
-        (
-            &["rout"],
-            "'rout' is no command; expected one of check, levels, route, draw, text; did you mean route?",
-        ),
-        (
-            &["--json"],
-            "a command is missing: check, levels, route, draw, text; see splicereel --help",
-        ),
-        (
-            &["\u{E9}"],
-            "'\u{E9}' is no command; expected one of check, levels, route, draw, text",
-        ),
-        (
-            &["x\u{1b}[31m"],
-            "'x\u{FFFD}[31m' is no command; expected one of check, levels, route, draw, text",
-        ),
-        (
-            &["check"],
-            "check: its words are missing; expected: splicereel check FILE",
-        ),
-        (
-            &["check", "-", "more"],
-            "check: 2 words are given; expected: splicereel check FILE",
-        ),
-        (
-            &["route", "-"],
-            "route: only a file is given; expected: splicereel route FILE FROM TO TOLERANCE|least",
-        ),
-        (
-            &["check", "-", "--jsn"],
-            "'--jsn' is no option; expected one of --json, --help, --version; did you mean --json?",
-        ),
-        (
-            &["draw", "-", "--json"],
-            "draw has no --json; expected: splicereel draw FILE [FROM TO TOLERANCE|least]",
-        ),
-        (
-            &["route", "-", "0", "1", "5"],
-            "standard input: TOLERANCE is '5', and must be 1, 2, 3, 4 or least",
-        ),
-        (
-            &["route", "-", "0", "1", "Least"],
-            "standard input: TOLERANCE is 'Least', and must be 1, 2, 3, 4 or least; did you mean least?",
-        ),
-        (
-            &["route", "-", "0", "ther", "1"],
-            "standard input: no place is called 'ther'; did you mean there?",
-        ),
-        (
-            &["route", "-", "0", "-1", "1"],
-            "standard input: no place is called '-1'",
-        ),
-        (
-            &["route", "-", "0", "2", "1"],
-            "standard input: refused, number 9: there is no node '2': nodes are 0 to 1",
-        ),
-        (
-            &["draw", "-", "7", "1", "1"],
-            "standard input: refused, number 9: there is no node '7': nodes are 0 to 1",
-        ),
-    ] {
+    for (words, due) in CALLS {
         says(words, input, due);
     }
     says(

@@ -4,9 +4,11 @@
 //! that shows SVG shows them.
 
 use super::geometry::{Line, Point, Rect, at};
-use super::ink::{DARK, INKS, Ink};
+use super::ink::{DARK, INKS};
 use super::labels::{Anchor, LEADING, Label, SIZE, cut, labels, width};
+use super::legend::{legend, one_way_stroke, stroke};
 use super::map::Map;
+use super::pieces::{arrow, escaped, number, points, rect, text};
 use super::scene::{Scene, Ways};
 use std::fmt::Write as _;
 
@@ -16,97 +18,131 @@ const MARGIN: f64 = 24.0;
 const ASIDE: f64 = 8.0;
 /// Before a corner, where the route begins to turn.
 const CORNER: f64 = 14.0;
-const TITLE_SIZE: f64 = 20.0;
-const CAPTION_SIZE: f64 = 14.0;
-/// The most characters of a title.
-const MOST_TITLE: usize = 80;
+/// Title and caption: their sizes, and the most characters of each.
+const TITLE: f64 = 20.0;
+const CAPTION: f64 = 14.0;
+const MOST: usize = 80;
 
 /// The picture of a scene whose nodes have places.
 pub fn svg(scene: &Scene) -> String {
     let map = Map::of(scene);
     let ridden = ridden(scene, &map);
     let labels = labels(scene, &map, &ridden);
-    let inner = labels
+    let frame = labels
         .iter()
-        .fold(map.frame(), |frame, label| frame.and(label.frame))
-        .wider(MARGIN);
-    let heading = heading(scene, inner);
-    let legend = legend(scene, &map, heading.frame);
-    let Rect { low, high } = legend.frame;
-    let (wide, high) = (high.x - low.x, high.y - low.y);
-    let name = scene.name.as_deref().unwrap_or("A town");
-    let caption = scene
-        .caption
-        .as_ref()
-        .map_or_else(String::new, |caption| format!(": {caption}"));
-    let mut out = String::new();
-    // Writing to a string does not fail, here and below.
-    let _ = writeln!(
-        out,
-        "<svg xmlns=\"http://www.w3.org/2000/svg\" viewBox=\"{} {} {} {}\" width=\"{2}\" height=\"{3}\" font-family=\"sans-serif\" font-size=\"{SIZE}\" fill=\"{DARK}\">",
-        number(low.x),
-        number(low.y),
-        number(wide),
-        number(high),
-    );
-    let _ = writeln!(
-        out,
-        "<title>{}</title>",
-        escaped(&format!("{name}{caption}"))
-    );
-    let _ = writeln!(
-        out,
-        "<rect x=\"{}\" y=\"{}\" width=\"{}\" height=\"{}\" fill=\"#FFFFFF\"/>",
-        number(low.x),
-        number(low.y),
-        number(wide),
-        number(high),
-    );
-    out += &heading.svg;
+        .fold(map.frame(), |frame, label| frame.and(label.frame));
+    let (heading, frame) = heading(scene, frame.wider(MARGIN));
+    let (legend, frame) = legend(scene, map.foot, frame, MARGIN);
+    let mut out = opening(scene, frame);
+    out += &heading;
     write_streets(&mut out, scene, &map);
     write_papers(&mut out, &labels);
     write_one_ways(&mut out, scene, &map);
-    write_route(&mut out, scene, &map, &ridden);
+    if let (Some((from, to)), false) = (scene.asked, ridden.is_empty()) {
+        let path = route(scene, &map, &ridden, [from, to]);
+        write_route(&mut out, &path, &ridden);
+    }
     write_nodes(&mut out, scene, &map, &labels);
-    out += &legend.svg;
+    out += &legend;
     out + "</svg>\n"
 }
 
-/// A coordinate, to a tenth.
-fn number(number: f64) -> String {
-    let tenths = (number * 10.0).round() / 10.0;
-    // No sign before a zero.
-    format!("{}", if tenths == 0.0 { 0.0 } else { tenths })
+/// The picture's tag, its title and its white ground.
+fn opening(scene: &Scene, frame: Rect) -> String {
+    let Rect { low, .. } = frame;
+    let (x, y, wide, high) = (
+        number(low.x),
+        number(low.y),
+        number(frame.width()),
+        number(frame.height()),
+    );
+    let mut title = scene.name.clone().unwrap_or_else(|| "A town".into());
+    if let Some(caption) = &scene.caption {
+        title = format!("{title}: {caption}");
+    }
+    format!(
+        "<svg xmlns=\"http://www.w3.org/2000/svg\" viewBox=\"{x} {y} {wide} {high}\" width=\"{wide}\" height=\"{high}\" \
+         font-family=\"sans-serif\" font-size=\"{SIZE}\" fill=\"{DARK}\">\n<title>{}</title>\n<g fill=\"#FFFFFF\">{}</g>\n",
+        escaped(&title),
+        rect(frame).trim_end(),
+    )
 }
 
-/// Words as XML has them.
-fn escaped(words: &str) -> String {
-    let mut out = String::with_capacity(words.len());
-    for character in words.chars() {
-        match character {
-            '&' => out.push_str("&amp;"),
-            '<' => out.push_str("&lt;"),
-            '>' => out.push_str("&gt;"),
-            '"' => out.push_str("&quot;"),
-            // Characters that XML does not have.
-            '\u{0}'..='\u{1F}' | '\u{FFFE}' | '\u{FFFF}' => out.push('\u{FFFD}'),
-            _ => out.push(character),
+/// Title and caption above a frame, and the frame round all.
+fn heading(scene: &Scene, map: Rect) -> (String, Rect) {
+    let (mut svg, mut frame) = (String::new(), map);
+    for (words, size, weight) in [
+        (&scene.caption, CAPTION, "normal"),
+        (&scene.name, TITLE, "bold"),
+    ] {
+        let Some(words) = words else {
+            continue;
+        };
+        let words = cut(words, MOST);
+        let foot = at(map.low.x + MARGIN, frame.low.y);
+        svg += &text(
+            foot,
+            &format!(" font-size=\"{size}\" font-weight=\"{weight}\""),
+            &words,
+        );
+        let end = at(width(&words, size) + MARGIN, 0.0);
+        frame = frame.and(Rect {
+            low: foot - at(0.0, 1.6 * size),
+            high: foot + end,
+        });
+    }
+    (svg, frame)
+}
+
+/// The streets, the widest first, so that none hides another at a corner.
+fn write_streets(out: &mut String, scene: &Scene, map: &Map) {
+    for ink in INKS.iter().rev() {
+        // Writing to a string does not fail, here and below.
+        let _ = writeln!(
+            out,
+            "<g id=\"level-{}\" fill=\"none\" {}>",
+            ink.level,
+            stroke(ink)
+        );
+        for (number, (street, line)) in scene.streets.iter().zip(&map.lines).enumerate() {
+            if street.level == ink.level {
+                let words = escaped(&scene.street_words(number));
+                let _ = writeln!(
+                    out,
+                    "<path d=\"{}\"><title>{words}</title></path>",
+                    points('M', &line.points)
+                );
+            }
         }
+        *out += "</g>\n";
     }
-    out
 }
 
-/// The points of a line, after the letter that begins a path or goes on.
-fn points(first: char, line: &Line) -> String {
-    let mut out = String::new();
-    for (place, point) in line.points.iter().enumerate() {
-        let letter = if place == 0 { first } else { 'L' };
-        let _ = write!(out, "{letter}{} {}", number(point.x), number(point.y));
+/// White behind the names, for those that stand over a street.
+fn write_papers(out: &mut String, labels: &[Label]) {
+    *out += "<g id=\"papers\" fill=\"#FFFFFF\" fill-opacity=\"0.75\">\n";
+    for label in labels.iter().filter(|label| !label.lines.is_empty()) {
+        *out += &rect(label.frame);
     }
-    out
+    *out += "</g>\n";
 }
 
-/// The route: each run beside its street, on the right.
+/// An arrow in the middle of each street that is open one way.
+fn write_one_ways(out: &mut String, scene: &Scene, map: &Map) {
+    let _ = writeln!(out, "<g id=\"one-way\" {}>", one_way_stroke());
+    for (street, line) in scene.streets.iter().zip(&map.lines) {
+        let line = match street.ways {
+            Ways::Both => continue,
+            Ways::AToB => line.clone(),
+            Ways::BToA => line.reversed(),
+        };
+        let (middle, direction) = line.along(line.length() * 0.5);
+        let _ = writeln!(out, "<path d=\"{}\"/>", arrow(middle, direction, 16.0));
+    }
+    *out += "</g>\n";
+}
+
+/// Each run of the route, beside its street on the right, without its ends.
 fn ridden(scene: &Scene, map: &Map) -> Vec<Line> {
     let ridden = scene.route.iter().map(|ride| {
         let line = &map.lines[ride.street];
@@ -120,169 +156,33 @@ fn ridden(scene: &Scene, map: &Map) -> Vec<Line> {
     ridden.collect()
 }
 
-/// A part of the picture, and the frame of the picture with it.
-struct Part {
-    svg: String,
-    frame: Rect,
-}
-
-/// Title and caption above the map.
-fn heading(scene: &Scene, map: Rect) -> Part {
-    let lines = [
-        (&scene.name, TITLE_SIZE, "bold"),
-        (&scene.caption, CAPTION_SIZE, "normal"),
-    ];
-    let lines = lines
-        .into_iter()
-        .filter_map(|(words, size, weight)| Some((cut(words.as_ref()?, MOST_TITLE), size, weight)));
-    let mut lines: Vec<(String, f64, &str)> = lines.collect();
-    lines.reverse();
-    let (mut svg, mut frame) = (String::new(), map);
-    for (words, size, weight) in lines {
-        let foot = at(map.low.x + MARGIN, frame.low.y);
-        let _ = writeln!(
-            svg,
-            "<text x=\"{}\" y=\"{}\" font-size=\"{size}\" font-weight=\"{weight}\">{}</text>",
-            number(foot.x),
-            number(foot.y),
-            escaped(&words),
+/// The route as one line through its corners.
+fn route(scene: &Scene, map: &Map, ridden: &[Line], asked: [usize; 2]) -> String {
+    let [from, to] = asked.map(|node| map.places[node]);
+    let mut path = points('M', &[from]);
+    let corners =
+        [None].into_iter().chain(
+            scene
+                .route
+                .iter()
+                .zip(ridden.windows(2))
+                .map(|(ride, pair)| {
+                    let street = &scene.streets[ride.street];
+                    let node = if ride.backward {
+                        street.a.node
+                    } else {
+                        street.b.node
+                    };
+                    Some(corner(map.places[node], &pair[0], &pair[1]))
+                }),
         );
-        frame = frame.and(Rect {
-            low: foot - at(0.0, 1.6 * size),
-            high: foot + at(width(&words, size) + MARGIN, 0.0),
-        });
-    }
-    Part { svg, frame }
-}
-
-/// The streets, the widest first, so that none hides another at a corner.
-fn write_streets(out: &mut String, scene: &Scene, map: &Map) {
-    for ink in INKS.iter().rev() {
-        let _ = writeln!(
-            out,
-            "<g id=\"level-{}\" fill=\"none\" {}>",
-            ink.level,
-            stroke(ink)
-        );
-        for (number, (street, line)) in scene.streets.iter().zip(&map.lines).enumerate() {
-            if street.level == ink.level {
-                let words = escaped(&scene.street_words(number));
-                let _ = writeln!(
-                    out,
-                    "<path d=\"{}\"><title>{words}</title></path>",
-                    points('M', line)
-                );
-            }
-        }
-        *out += "</g>\n";
-    }
-}
-
-fn stroke(ink: &Ink) -> String {
-    let dashes = ink.dashes.map_or_else(String::new, |(dash, gap)| {
-        format!(" stroke-dasharray=\"{dash} {gap}\"")
-    });
-    format!(
-        "stroke=\"{}\" stroke-width=\"{}\"{dashes}",
-        ink.colour, ink.width
-    )
-}
-
-/// White behind the names that stand over a street.
-fn write_papers(out: &mut String, labels: &[Label]) {
-    *out += "<g id=\"papers\" fill=\"#FFFFFF\" fill-opacity=\"0.75\">\n";
-    for Label { frame, .. } in labels.iter().filter(|label| !label.lines.is_empty()) {
-        let _ = writeln!(
-            out,
-            "<rect x=\"{}\" y=\"{}\" width=\"{}\" height=\"{}\"/>",
-            number(frame.low.x),
-            number(frame.low.y),
-            number(frame.width()),
-            number(frame.height()),
-        );
-    }
-    *out += "</g>\n";
-}
-
-/// An arrowhead so long whose middle is at a point.
-fn arrow(middle: Point, direction: Point, long: f64) -> String {
-    let (tip, tail) = (
-        middle + direction * (long * 0.5),
-        middle - direction * (long * 0.5),
-    );
-    let side = direction.right() * (long * 0.45);
-    points(
-        'M',
-        &Line {
-            points: vec![
-                tip,
-                tail + side,
-                middle - direction * (long * 0.25),
-                tail - side,
-            ],
-        },
-    ) + "Z"
-}
-
-/// An arrow in the middle of each street that is open one way.
-fn write_one_ways(out: &mut String, scene: &Scene, map: &Map) {
-    let _ = writeln!(
-        out,
-        "<g id=\"one-way\" fill=\"#FFFFFF\" stroke=\"{DARK}\" stroke-width=\"1.5\">"
-    );
-    for (street, line) in scene.streets.iter().zip(&map.lines) {
-        let line = match street.ways {
-            Ways::Both => continue,
-            Ways::AToB => line.clone(),
-            Ways::BToA => line.reversed(),
+    for (line, corner) in ridden.iter().zip(corners) {
+        path += &match corner {
+            Some(bend) => points('Q', &[bend]) + &points(' ', &line.points),
+            None => points('L', &line.points),
         };
-        let (middle, direction) = line.along(line.length() * 0.5);
-        let _ = writeln!(out, "<path d=\"{}\"/>", arrow(middle, direction, 16.0));
     }
-    *out += "</g>\n";
-}
-
-/// The route as one line through its corners, with an arrow on each run.
-fn write_route(out: &mut String, scene: &Scene, map: &Map, ridden: &[Line]) {
-    let (Some((from, to)), false) = (scene.asked, ridden.is_empty()) else {
-        return;
-    };
-    let mut path = points(
-        'M',
-        &Line {
-            points: vec![map.places[from]],
-        },
-    );
-    path += &points('L', &ridden[0]);
-    for (ride, pair) in scene.route.iter().zip(ridden.windows(2)) {
-        let street = &scene.streets[ride.street];
-        let node = if ride.backward {
-            street.a.node
-        } else {
-            street.b.node
-        };
-        let bend = corner(map.places[node], &pair[0], &pair[1]);
-        let _ = write!(path, "Q{} {} ", number(bend.x), number(bend.y));
-        path += points(' ', &pair[1]).trim_start();
-    }
-    path += &points(
-        'L',
-        &Line {
-            points: vec![map.places[to]],
-        },
-    );
-    *out += "<g id=\"route\" stroke-linejoin=\"round\" stroke-linecap=\"round\">\n";
-    for (colour, width) in [("#FFFFFF", 7), (DARK, 3)] {
-        let _ = writeln!(
-            out,
-            "<path fill=\"none\" stroke=\"{colour}\" stroke-width=\"{width}\" d=\"{path}\"/>"
-        );
-    }
-    for line in ridden {
-        let (middle, direction) = line.along(line.length() * 0.65);
-        let _ = writeln!(out, "<path d=\"{}\"/>", arrow(middle, direction, 13.0));
-    }
-    *out += "</g>\n";
+    path + &points('L', &[to])
 }
 
 /// The point towards which the route turns from one run onto the next at a
@@ -295,6 +195,22 @@ fn corner(node: Point, before: &Line, after: &Line) -> Point {
         true => node,
         false => node + (ahead.right() + away.right()) * (ASIDE / turned),
     }
+}
+
+/// The route with a white border, and an arrow on each run.
+fn write_route(out: &mut String, path: &str, ridden: &[Line]) {
+    *out += "<g id=\"route\" stroke-linejoin=\"round\" stroke-linecap=\"round\">\n";
+    for (colour, width) in [("#FFFFFF", 7), (DARK, 3)] {
+        let _ = writeln!(
+            out,
+            "<path fill=\"none\" stroke=\"{colour}\" stroke-width=\"{width}\" d=\"{path}\"/>"
+        );
+    }
+    for line in ridden {
+        let (middle, direction) = line.along(line.length() * 0.65);
+        let _ = writeln!(out, "<path d=\"{}\"/>", arrow(middle, direction, 13.0));
+    }
+    *out += "</g>\n";
 }
 
 /// A circle for each node, and its name.
@@ -320,10 +236,9 @@ fn circle(place: Point, asked: Option<(usize, usize)>, node: usize) -> String {
         Some((_, to)) if node == to => (6.5, "#FFFFFF", 4.0),
         _ => (4.0, "#FFFFFF", 1.5),
     };
+    let (x, y) = (number(place.x), number(place.y));
     format!(
-        "<circle cx=\"{}\" cy=\"{}\" r=\"{radius}\" fill=\"{fill}\" stroke-width=\"{width}\"/>\n",
-        number(place.x),
-        number(place.y),
+        "<circle cx=\"{x}\" cy=\"{y}\" r=\"{radius}\" fill=\"{fill}\" stroke-width=\"{width}\"/>\n"
     )
 }
 
@@ -334,139 +249,15 @@ fn name(label: &Label, bold: bool) -> String {
         Anchor::End => "end",
     };
     let weight = if bold { " font-weight=\"bold\"" } else { "" };
-    let mut out = String::new();
-    for (place, line) in label.lines.iter().enumerate() {
-        let below = label.start.y + LEADING * place as f64;
-        let _ = writeln!(
-            out,
-            "<text x=\"{}\" y=\"{}\" text-anchor=\"{anchor}\"{weight}>{}</text>",
-            number(label.start.x),
-            number(below),
-            escaped(line),
-        );
-    }
-    out
-}
-
-/// An entry of the legend: what is drawn from a point on to the right, its
-/// width, and its words.
-struct Entry {
-    drawn: Box<dyn Fn(Point) -> String>,
-    wide: f64,
-    words: String,
-}
-
-/// The legend below the map, in as many rows as it needs.
-fn legend(scene: &Scene, map: &Map, above: Rect) -> Part {
-    const SIZE: f64 = 12.0;
-    const ROW: f64 = 24.0;
-    let left = above.low.x + MARGIN;
-    let mut place = at(left, above.high.y + ROW * 0.5);
-    let mut svg = format!("<g id=\"legend\" font-size=\"{SIZE}\">\n");
-    let mut frame = above;
-    for Entry { drawn, wide, words } in entries(scene, map) {
-        let full = wide + 8.0 + width(&words, SIZE);
-        if place.x > left && place.x + full > above.high.x - MARGIN {
-            place = at(left, place.y + ROW);
-        }
-        let _ = writeln!(
-            svg,
-            "{}<text x=\"{}\" y=\"{}\">{}</text>",
-            drawn(place),
-            number(place.x + wide + 8.0),
-            number(place.y + SIZE * 0.35),
-            escaped(&words),
-        );
-        frame = frame.and(Rect {
-            low: place,
-            high: place + at(full + MARGIN, ROW),
-        });
-        place.x += full + 22.0;
-    }
-    Part {
-        svg: svg + "</g>\n",
-        frame,
-    }
-}
-
-fn entries(scene: &Scene, map: &Map) -> Vec<Entry> {
-    const WIDE: f64 = 40.0;
-    let line = |stroke: String| {
-        move |place: Point| {
-            let line = Line::straight(place, place + at(WIDE, 0.0));
-            format!("<path {stroke} d=\"{}\"/>", points('M', &line))
-        }
-    };
-    let entry = |wide: f64, words: &str, drawn: Box<dyn Fn(Point) -> String>| Entry {
-        drawn,
-        wide,
-        words: words.into(),
-    };
-    let mut entries: Vec<Entry> = INKS
-        .iter()
-        .map(|ink| {
-            entry(
-                WIDE,
-                &format!("level {}", ink.level),
-                Box::new(line(stroke(ink))),
+    let attributes = format!(" text-anchor=\"{anchor}\"{weight}");
+    let lines = label.lines.iter().enumerate();
+    lines
+        .map(|(place, line)| {
+            text(
+                label.start + at(0.0, LEADING * place as f64),
+                &attributes,
+                line,
             )
         })
-        .collect();
-    if scene.streets.iter().any(|street| street.ways != Ways::Both) {
-        let drawn = |place: Point| {
-            let arrow = arrow(place + at(8.0, 0.0), at(1.0, 0.0), 16.0);
-            format!("<path fill=\"#FFFFFF\" stroke=\"{DARK}\" stroke-width=\"1.5\" d=\"{arrow}\"/>")
-        };
-        entries.push(entry(16.0, "one way", Box::new(drawn)));
-    }
-    if !scene.route.is_empty() {
-        let ridden = line(format!("stroke=\"{DARK}\" stroke-width=\"3\""));
-        let drawn = move |place: Point| {
-            let arrow = arrow(place + at(26.0, 0.0), at(1.0, 0.0), 13.0);
-            format!("{}<path d=\"{arrow}\"/>", ridden(place))
-        };
-        entries.push(entry(WIDE, "route", Box::new(drawn)));
-    }
-    let (feet, wide) = scale(map.foot);
-    let drawn = move |place: Point| {
-        let ends = [
-            at(0.0, -4.0),
-            at(0.0, 4.0),
-            at(0.0, 0.0),
-            at(wide, 0.0),
-            at(wide, -4.0),
-            at(wide, 4.0),
-        ];
-        let line = Line {
-            points: ends.map(|end| place + end).to_vec(),
-        };
-        format!(
-            "<path fill=\"none\" stroke=\"{DARK}\" d=\"{}\"/>",
-            points('M', &line)
-        )
-    };
-    entries.push(entry(
-        wide,
-        &format!("{feet} ft, north is up"),
-        Box::new(drawn),
-    ));
-    entries
-}
-
-/// A round number of feet, and its width on paper.
-fn scale(foot: f64) -> (u64, f64) {
-    const MOST: f64 = 130.0;
-    let mut feet = 1;
-    for factor in [2, 5, 10]
-        .into_iter()
-        .cycle()
-        .enumerate()
-        .map(|(place, factor)| factor * 10_u64.pow(place as u32 / 3))
-        .take(24)
-    {
-        if factor as f64 * foot <= MOST {
-            feet = factor;
-        }
-    }
-    (feet, feet as f64 * foot)
+        .collect()
 }
