@@ -88,6 +88,7 @@ fn write(answer: &str, status: u8) -> u8 {
 /// One line on standard error; nothing is to be done where it cannot be
 /// written.
 fn complain(words: &str) {
+    let words: String = words.chars().map(fault::printable).collect();
     let _ = writeln!(io::stderr(), "splicereel: {words}");
 }
 

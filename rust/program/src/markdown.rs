@@ -1,19 +1,21 @@
 //! The tables of a Markdown file.
 
 use crate::fault::{Fault, quoted};
+use std::borrow::Cow;
 
 /// A table's row: its line, counted from 1, and its cells.
 #[derive(Debug)]
-pub struct Row {
+pub struct Row<'t> {
     pub line: usize,
-    pub cells: Vec<String>,
+    pub cells: Vec<Cow<'t, str>>,
 }
 
 /// A table: lines that begin with `|`, one after another.
 #[derive(Debug)]
-pub struct Table {
-    pub heading: Row,
-    pub rows: Vec<Row>,
+pub struct Table<'t> {
+    pub heading: Row<'t>,
+    /// The lines below the heading, each with its number.
+    lines: Vec<(usize, &'t str)>,
 }
 
 /// Whether a file has a line that could be a table's.
@@ -23,18 +25,18 @@ pub fn has_rows(file: &[u8]) -> bool {
 }
 
 /// The tables outside fenced blocks.
-pub fn tables(text: &str) -> Result<Vec<Table>, Fault> {
-    let mut tables = Vec::new();
-    let mut block: Vec<(usize, &str)> = Vec::new();
-    let mut fenced = false;
-    for (number, line) in (1..).zip(text.lines().chain([""])) {
+pub fn tables(text: &str) -> Result<Vec<Table<'_>>, Fault> {
+    let mut tables: Vec<Table<'_>> = Vec::new();
+    let (mut fenced, mut within) = (false, false);
+    for (number, line) in (1..).zip(text.lines()) {
         let line = line.trim();
         fenced ^= line.starts_with("```");
-        if line.starts_with('|') && !fenced {
-            block.push((number, line));
-        } else if !block.is_empty() {
-            tables.push(table(&block)?);
-            block.clear();
+        let before = within;
+        within = line.starts_with('|') && !fenced;
+        match tables.last_mut().filter(|_| before) {
+            Some(table) if within => table.lines.push((number, line)),
+            _ if within => tables.push(headed(row(number, line)?)?),
+            _ => {}
         }
     }
     Ok(tables)
@@ -47,21 +49,21 @@ pub fn title(text: &str) -> Option<&str> {
         .map(str::trim)
 }
 
-fn table(block: &[(usize, &str)]) -> Result<Table, Fault> {
-    let mut rows = Vec::with_capacity(block.len());
-    for &(line, text) in block {
-        rows.push(row(line, text)?);
-    }
-    let heading = rows.remove(0);
-    if heading.cells[0].bytes().all(|byte| byte.is_ascii_digit()) && !heading.cells[0].is_empty() {
+/// A table with this heading, which is not a row of numbers.
+fn headed(heading: Row<'_>) -> Result<Table<'_>, Fault> {
+    let first = &heading.cells[0];
+    if !first.is_empty() && first.bytes().all(|byte| byte.is_ascii_digit()) {
         let what = "a row of no table: an empty line, or another text, parts it from its heading";
         return Err(Fault::at(heading.line, what));
     }
-    Ok(Table { heading, rows })
+    Ok(Table {
+        heading,
+        lines: vec![],
+    })
 }
 
 /// The cells between bars; `\|` is a bar within a cell.
-fn row(line: usize, text: &str) -> Result<Row, Fault> {
+fn row(line: usize, text: &str) -> Result<Row<'_>, Fault> {
     let inner = text.strip_prefix('|').unwrap_or(text);
     let Some(inner) = inner
         .strip_suffix('|')
@@ -70,49 +72,61 @@ fn row(line: usize, text: &str) -> Result<Row, Fault> {
         let what = format!("the row does not end with a bar, |: {}", quoted(text));
         return Err(Fault::at(line, what));
     };
-    let mut cells = vec![String::new()];
-    let mut characters = inner.chars().peekable();
-    while let Some(character) = characters.next() {
-        match (character, cells.last_mut()) {
-            ('\\', Some(cell)) if characters.peek() == Some(&'|') => cell.extend(characters.next()),
-            ('|', _) => cells.push(String::new()),
-            (_, Some(cell)) => cell.push(character),
-            (_, None) => {}
+    let mut cells = Vec::new();
+    let mut start = 0;
+    for (bar, _) in inner.match_indices('|') {
+        if !inner[..bar].ends_with('\\') {
+            cells.push(cell(&inner[start..bar]));
+            start = bar + 1;
         }
     }
-    let cells = cells.iter().map(|cell| cell.trim().to_string()).collect();
+    cells.push(cell(&inner[start..]));
     Ok(Row { line, cells })
 }
 
-impl Table {
+fn cell(words: &str) -> Cow<'_, str> {
+    let words = words.trim();
+    match words.contains("\\|") {
+        true => words.replace("\\|", "|").into(),
+        false => words.into(),
+    }
+}
+
+impl<'t> Table<'t> {
     /// The rows below the dashes, each with as many cells as the heading, and
     /// numbered from 0 in the first.
-    pub fn numbered(&self) -> Result<&[Row], Fault> {
-        let columns = self.heading.cells.len();
-        let dashes = |cell: &String| {
-            !cell.is_empty() && cell.chars().all(|character| "-:".contains(character))
-        };
-        let Some((_, rows)) = self
-            .rows
-            .split_first()
-            .filter(|(first, _)| first.cells.iter().all(dashes))
-        else {
+    pub fn numbered(&self) -> Result<Vec<Row<'t>>, Fault> {
+        let mut lines = self.lines.iter().map(|&(line, text)| row(line, text));
+        let dashes =
+            |cell: &Cow<'_, str>| !cell.is_empty() && cell.chars().all(|sign| "-:".contains(sign));
+        if !lines
+            .next()
+            .transpose()?
+            .is_some_and(|row| row.cells.iter().all(dashes))
+        {
             let what = "a row of dashes, as in |---|---|, is due below this heading";
             return Err(Fault::at(self.heading.line, what));
-        };
-        for (number, row) in rows.iter().enumerate() {
-            if row.cells.len() != columns {
-                let what = format!("{} cells, and the heading has {columns}", row.cells.len());
-                return Err(Fault::at(row.line, what));
-            }
-            if row.cells[0] != number.to_string() {
-                let what = format!(
-                    "the row is numbered {}, and {number} is due",
-                    quoted(&row.cells[0])
-                );
-                return Err(Fault::at(row.line, what));
-            }
         }
-        Ok(rows)
+        let rows = lines
+            .enumerate()
+            .map(|(number, row)| self.in_order(number, row?));
+        rows.collect()
+    }
+
+    /// The row, if it is one of this table's with that number.
+    fn in_order(&self, number: usize, row: Row<'t>) -> Result<Row<'t>, Fault> {
+        let (columns, cells) = (self.heading.cells.len(), row.cells.len());
+        if cells != columns {
+            let what = format!("{cells} cells, and the heading has {columns}");
+            return Err(Fault::at(row.line, what));
+        }
+        if row.cells[0] != number.to_string() {
+            let what = format!(
+                "the row is numbered {}, and {number} is due",
+                quoted(&row.cells[0])
+            );
+            return Err(Fault::at(row.line, what));
+        }
+        Ok(row)
     }
 }

@@ -10,6 +10,7 @@ use crate::segment::{
 };
 use crate::segment::{AT_A, AT_B, CONTROL, CROSSED, CROSSED_SPEED, TURN, TURN_LENGTH, TURN_SPEED};
 use splicereel::{Network, ReadRefusal, Refusal};
+use std::borrow::Cow;
 
 const NODES: [&str; 4] = ["node", "place", "x", "y"];
 const SEGMENTS: [&str; 15] = [
@@ -56,20 +57,20 @@ pub fn read(file: &[u8]) -> Result<Described, Fault> {
         .collect::<Result<Vec<_>, Fault>>()?;
     let text = text(node_rows.len(), &streets);
     let network = Network::read(&text).map_err(|refused| {
-        let rows = Rows {
-            nodes,
-            segments,
-            places: node_rows,
+        let made = Made {
+            headings: [nodes.heading.line, segments.heading.line],
+            places: &node_rows,
+            rows: &segment_rows,
             streets: &streets,
         };
-        rows.fault(refused)
+        made.fault(refused)
     })?;
-    let second = |rows: &[Row]| rows.iter().map(|row| row.cells[1].clone()).collect();
+    let second = |rows: &[Row<'_>]| rows.iter().map(|row| row.cells[1].to_string()).collect();
     Ok(Described {
         name: markdown::title(file).map(str::to_string),
-        places: second(node_rows),
+        places: second(&node_rows),
         map: map.transpose()?,
-        streets: second(segment_rows),
+        streets: second(&segment_rows),
         text,
         network,
     })
@@ -89,7 +90,7 @@ fn utf8(file: &[u8]) -> Result<&str, Fault> {
 }
 
 /// The one table whose heading begins with this word.
-fn the_table<'t>(tables: &'t [Table], first: &str) -> Result<&'t Table, Fault> {
+fn the_table<'a, 't>(tables: &'a [Table<'t>], first: &str) -> Result<&'a Table<'t>, Fault> {
     let mut named = tables
         .iter()
         .filter(|table| table.heading.cells[0] == first);
@@ -107,7 +108,7 @@ fn the_table<'t>(tables: &'t [Table], first: &str) -> Result<&'t Table, Fault> {
                 "there is no table of {first}s: a heading that begins with | {first} | is due"
             );
             let near = tables.iter().find(|table| {
-                let cell = table.heading.cells[0].as_str();
+                let cell = &*table.heading.cells[0];
                 !meant(cell, [first]).is_empty()
             });
             Err(match near {
@@ -118,7 +119,7 @@ fn the_table<'t>(tables: &'t [Table], first: &str) -> Result<&'t Table, Fault> {
     }
 }
 
-fn heading(table: &Table, due: &[&str]) -> Result<(), Fault> {
+fn heading(table: &Table<'_>, due: &[&str]) -> Result<(), Fault> {
     let cells = &table.heading.cells;
     let wrong = (1..)
         .zip(cells.iter().zip(due))
@@ -143,9 +144,9 @@ fn heading(table: &Table, due: &[&str]) -> Result<(), Fault> {
 }
 
 /// A node's place on the map.
-fn place(row: &Row) -> Result<(i32, i32), Fault> {
+fn place(row: &Row<'_>) -> Result<(i32, i32), Fault> {
     let feet = |column: usize| {
-        let cell = row.cells[column].as_str();
+        let cell = &*row.cells[column];
         let (digits, sign) = cell
             .strip_prefix('-')
             .map_or((cell, 1), |digits| (digits, -1));
@@ -178,11 +179,11 @@ fn whole(cell: &str) -> Option<u32> {
 }
 
 /// The fields of a segment's row.
-fn street(row: &Row) -> Result<Segment, Fault> {
+fn street(row: &Row<'_>) -> Result<Segment, Fault> {
     fields(&row.cells).map_err(|words| Fault::at(row.line, words))
 }
 
-fn fields(cells: &[String]) -> Result<Segment, String> {
+fn fields(cells: &[Cow<'_, str>]) -> Result<Segment, String> {
     let mut segment = Segment::default();
     let numbers = [
         (A_NODE, 2),
@@ -310,25 +311,27 @@ fn line(frame: &[u8]) -> Vec<u8> {
 }
 
 /// What a refused text was made of.
-struct Rows<'t> {
-    nodes: &'t Table,
-    segments: &'t Table,
-    places: &'t [Row],
+struct Made<'t> {
+    /// The lines of the headings of nodes and of segments.
+    headings: [usize; 2],
+    places: &'t [Row<'t>],
+    rows: &'t [Row<'t>],
     streets: &'t [Segment],
 }
 
-impl Rows<'_> {
+impl Made<'_> {
     /// What to mend in the tables where Read refuses their text.
     fn fault(&self, refused: ReadRefusal) -> Fault {
         let segment = (refused.line as usize).checked_sub(2);
-        let row = segment.and_then(|segment| self.segments.rows.get(segment + 1));
-        let line = row.map_or(self.nodes.heading.line, |row| row.line);
+        let row = segment.and_then(|segment| self.rows.get(segment));
+        let nodes = explain::counts(self.places.len(), 0).is_some();
+        let heading = self.headings[if nodes { 0 } else { 1 }];
         let words = segment.map_or_else(
             || explain::counts(self.places.len(), self.streets.len()),
             |segment| self.segment_words(segment, refused.refusal),
         );
         Fault {
-            line: Some(line),
+            line: Some(row.map_or(heading, |row| row.line)),
             refusal: Some(refused.refusal),
             words: words.unwrap_or_else(|| refused.refusal.to_string()),
         }
@@ -339,11 +342,8 @@ impl Rows<'_> {
         let segment = &segments[number];
         if refusal == Refusal::LegTaken {
             let taken = segment::taken(segments)?;
-            let street = self.segments.rows.get(taken.by + 1)?;
-            let by = format!(
-                "segment {}, {} (line {})",
-                taken.by, street.cells[1], street.line
-            );
+            let Row { line, cells } = self.rows.get(taken.by)?;
+            let by = format!("segment {}, {} (line {line})", taken.by, cells[1]);
             let place = &self.places.get(taken.node as usize)?.cells[1];
             let node = format!("node {}, {place}", taken.node);
             return Some(taken.words(taken.by == number, &by, &node));

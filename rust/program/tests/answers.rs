@@ -157,7 +157,7 @@ fn changed(town: &Town, run: u16, change: fn(Approach) -> Approach) -> Town {
 fn right_hand(town: &Town, p: u16, q: u16) -> bool {
     let ends = |run: u16| {
         let Segment { a, b, .. } = town.segments[usize::from(run / 2)];
-        if run % 2 == 0 { (a, b) } else { (b, a) }
+        if run & 1 == 0 { (a, b) } else { (b, a) }
     };
     let (arrival, leaving) = (ends(p).1, ends(q).0);
     let used = |leg: u8| {

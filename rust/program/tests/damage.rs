@@ -18,8 +18,11 @@ use std::sync::atomic::{AtomicU64, Ordering};
 use std::time::{Duration, Instant, SystemTime};
 use towns::draw::{Rng, Shape, Spot, change, damage, town};
 
+/// Makes a file.
+type Damaged = fn(&mut Rng) -> Vec<u8>;
+
 /// Each kind of damage, by name.
-const KINDS: [(&str, fn(&mut Rng) -> Vec<u8>); 12] = [
+const KINDS: [(&str, Damaged); 12] = [
     ("random bytes", random_bytes),
     ("random digits and lines", random_digits),
     ("a whole text", whole_text),
@@ -70,7 +73,7 @@ fn faulty_text(rng: &mut Rng) -> Vec<u8> {
     }
 }
 
-fn cut(rng: &mut Rng, whole: fn(&mut Rng) -> Vec<u8>) -> Vec<u8> {
+fn cut(rng: &mut Rng, whole: Damaged) -> Vec<u8> {
     let mut file = whole(rng);
     let (from, to) = (rng.below(file.len() + 1), rng.below(file.len() + 1));
     match rng.chance(50) {
@@ -80,7 +83,7 @@ fn cut(rng: &mut Rng, whole: fn(&mut Rng) -> Vec<u8>) -> Vec<u8> {
     file
 }
 
-fn changed(rng: &mut Rng, whole: fn(&mut Rng) -> Vec<u8>) -> Vec<u8> {
+fn changed(rng: &mut Rng, whole: Damaged) -> Vec<u8> {
     let mut file = whole(rng);
     for _ in 0..rng.range(1, 4) {
         change(rng, &mut file);

@@ -216,6 +216,13 @@ fn counts() {
         .collect();
     let many = with(ROW).replace("| 0 | here |\n| 1 | there |\n", &many);
     table_says(&many, &refused("70000 nodes: a town has 1 to 1000"));
+    let rows: String = (0..1_001)
+        .map(|number| ROW.replacen("| 0 |", &format!("| {number} |"), 1))
+        .collect();
+    table_says(
+        &with(&rows),
+        "refused, number 4, line 6: 1001 segments: a town has at most 1000",
+    );
 }
 
 #[test]

@@ -104,10 +104,9 @@ fn entries(scene: &Scene, foot: f64) -> Vec<Entry> {
 /// A round number of feet, as long on paper as fits, and that length.
 fn scale(foot: f64) -> (u64, f64) {
     const MOST: f64 = 130.0;
-    let tens = (0..8).map(|power| 10_u64.pow(power));
-    let round = tens.flat_map(|ten| [ten, 2 * ten, 5 * ten]);
-    let fits = round.filter(|feet| *feet as f64 * foot <= MOST);
-    let feet = fits.last().unwrap_or(1);
+    let round = (0..8).flat_map(|power| [1, 2, 5].map(|digit| digit * 10_u64.pow(power)));
+    let fits = |feet: &u64| *feet as f64 * foot <= MOST;
+    let feet = round.take_while(fits).max().unwrap_or(1);
     (feet, feet as f64 * foot)
 }
 

@@ -21,7 +21,7 @@ const CORNER: f64 = 14.0;
 /// Title and caption: their sizes, and the most characters of each.
 const TITLE: f64 = 20.0;
 const CAPTION: f64 = 14.0;
-const MOST: usize = 80;
+const MOST: usize = 160;
 
 /// The picture of a scene whose nodes have places.
 pub fn svg(scene: &Scene) -> String {
