@@ -10,12 +10,14 @@ pub fn nearest<'w>(word: &str, words: impl IntoIterator<Item = &'w str>) -> Opti
     if length == 0 || length > MOST {
         return None;
     }
+    let near = |wrong: usize| 3 * wrong <= length.max(3);
     words
         .into_iter()
-        .filter(|other| other.chars().count() <= MOST)
+        // As many letters are wrong as the one word has more than the other.
+        .filter(|other| near(length.abs_diff(other.chars().count())))
         .map(|other| (distance(word, other), other))
-        .min_by_key(|(distance, _)| *distance)
-        .filter(|(distance, _)| 3 * distance <= length.max(3))
+        .filter(|(wrong, _)| near(*wrong))
+        .min_by_key(|(wrong, _)| *wrong)
         .map(|(_, other)| other)
 }
 
