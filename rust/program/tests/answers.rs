@@ -3,7 +3,7 @@
 
 mod common;
 
-use common::{Json, run, table};
+use common::{GRID, Json, run, table};
 use oracle::Net;
 use towns::Town;
 use towns::draw::{Rng, Shape, Spot, damage, town};
@@ -175,7 +175,7 @@ fn right_hand(town: &Town, p: u16, q: u16) -> bool {
 #[test]
 fn tables_and_texts_say_the_same() {
     for (mut rng, town) in some_towns(4) {
-        let described = table(&town, rng.chance(50));
+        let described = table(&town, rng.chance(50).then_some(GRID));
         let text = run(&["text", "-"], described.as_bytes());
         assert_eq!(
             (text.status, text.out.as_bytes()),

@@ -8,7 +8,7 @@
 
 mod common;
 
-use common::{SEGMENTS, table};
+use common::{GRID, Place, SEGMENTS, table};
 use std::fs;
 use std::io::Write as _;
 use std::path::PathBuf;
@@ -59,8 +59,18 @@ fn whole_text(rng: &mut Rng) -> Vec<u8> {
     some_town(rng).text()
 }
 
+/// Maps, most of which no town has: every node at one place, or at two that
+/// are as far apart as may be, or wherever.
+const MAPS: [Place; 5] = [
+    GRID,
+    |_| (0, 0),
+    |node| (node % 2 * 10_000_000, -10_000_000),
+    |node| (node, node / 3),
+    |node| (node * 7_919 % 10_000_000, node * node * 31 % 9_999_991),
+];
+
 fn whole_table(rng: &mut Rng) -> Vec<u8> {
-    let map = rng.chance(60);
+    let map = rng.chance(75).then(|| rng.pick(&MAPS));
     table(&some_town(rng), map).into_bytes()
 }
 

@@ -3,7 +3,7 @@
 
 mod common;
 
-use common::{run, table};
+use common::{GRID, run, table};
 use oracle::Net;
 use towns::Town;
 use towns::draw::{Rng, Shape, town};
@@ -22,7 +22,7 @@ fn described(map: bool) -> impl Iterator<Item = (Town, String, [String; 3])> {
             300 + seed,
             size,
         );
-        let mut table = table(&town, map);
+        let mut table = table(&town, map.then_some(GRID));
         for (place, name) in NAMES.iter().enumerate() {
             table = table.replace(&format!("| Place {place} |"), &format!("| {name} |"));
             table = table.replace(&format!("| Street {place} |"), &format!("| {name} |"));

@@ -10,6 +10,8 @@ pub const LEADING: f64 = 12.5;
 /// The most characters of a name, and of a line of it where its words allow.
 const MOST: usize = 60;
 const WIDE: usize = 15;
+/// A name over so many streets is covered anyhow: no more are looked at.
+const MANY: usize = 20;
 /// From a node's middle to its name: near, or farther off where that covers
 /// less.
 const APART: [f64; 2] = [9.0, 18.0];
@@ -121,7 +123,8 @@ impl Covered {
         let near = self
             .streets
             .iter()
-            .filter(|(whole, _)| whole.wider(1.0).meets(round));
+            .filter(|(whole, _)| whole.wider(1.0).meets(round))
+            .take(MANY);
         let street = |line: &Line| {
             let length: f64 = line.pieces().map(|(from, to)| round.holds(from, to)).sum();
             if length > 0.0 {

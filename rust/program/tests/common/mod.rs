@@ -157,22 +157,24 @@ fn string(rest: &mut &str) -> String {
 pub const SEGMENTS: &str = "| segment | street | A | A leg | B | B leg | feet | form | ways | lanes | mph | reach | marks | at B | at A |\n\
      |---|---|---|---|---|---|---|---|---|---|---|---|---|---|---|\n";
 
+/// Where a node lies on a map.
+pub type Place = fn(i32) -> (i32, i32);
+
+/// A map of thirty nodes in a row.
+pub const GRID: Place = |node| (node % 30 * 400 - 3_000, node / 30 * 300);
+
 /// A town as a description with tables; node n is `Place n`, and lies on a map
-/// if it is asked for.
-pub fn table(town: &Town, map: bool) -> String {
+/// if there is one.
+pub fn table(town: &Town, map: Option<Place>) -> String {
     let mut table = "# Some town\n\nWords that say nothing.\n\n".to_string();
-    table += if map {
-        "| node | place | x | y |\n|---|---|---|---|\n"
-    } else {
-        "| node | place |\n|---|---|\n"
+    table += match map {
+        Some(_) => "| node | place | x | y |\n|---|---|---|---|\n",
+        None => "| node | place |\n|---|---|\n",
     };
     for node in 0..i32::from(town.nodes) {
-        let (x, y) = (node % 30 * 400 - 3_000, node / 30 * 300);
-        table += &if map {
-            format!("| {node} | Place {node} | {x} | {y} |\n")
-        } else {
-            format!("| {node} | Place {node} |\n")
-        };
+        let place = map.map(|place| place(node));
+        let place = place.map_or_else(String::new, |(x, y)| format!(" {x} | {y} |"));
+        table += &format!("| {node} | Place {node} |{place}\n");
     }
     table += "\n";
     table += SEGMENTS;
