@@ -119,7 +119,8 @@ fn ink(level: u8) -> String {
 
 fn legend() -> String {
     let mut out = "  subgraph cluster_legend {\n    label=\"levels\"; fontsize=11; color=\"#BBBBBB\"; node [shape=point, width=0.02];\n".to_string();
-    for level in 1..=4 {
+    // Graphviz lays parts that are not joined from right to left.
+    for level in (1..=4).rev() {
         let _ = writeln!(
             out,
             "    from_{level} -> to_{level} [dir=none, {}, label=\" {level}\"];",
