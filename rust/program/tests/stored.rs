@@ -173,3 +173,27 @@ fn levels_are_the_oracles() {
         }
     }
 }
+
+/// docs/JSON.md names every field of the stored answers for scripts.
+#[test]
+fn fields_are_documented() {
+    let named = fs::read_to_string(file("docs/JSON.md")).expect("docs/JSON.md");
+    for name in [
+        "check-json",
+        "levels-json",
+        "json-found",
+        "json-none",
+        "json-refused",
+    ] {
+        let stored = file(&format!("tests/splicereel/{name}.out"));
+        let answer = fs::read_to_string(stored).expect(name);
+        let fields = answer
+            .split("\":")
+            .filter_map(|part| part.rsplit('"').next());
+        let fields: Vec<&str> = fields.filter(|field| !field.ends_with('\n')).collect();
+        assert!(fields.len() > 4, "{name}");
+        for field in fields {
+            assert!(named.contains(&format!("`{field}`")), "{name}: {field}");
+        }
+    }
+}
