@@ -119,9 +119,10 @@ pub fn read(words: Vec<OsString>) -> Result<Request, Fault> {
             .iter()
             .any(|option| names.contains(&option.as_str()))
     };
-    let mut plain = plain.into_iter();
+    let mut plain = plain.into_iter().peekable();
+    let help = plain.next_if(|word| word == "help").is_some();
     let command = plain.next().map(command).transpose()?;
-    if has(["--help", "-h"]) {
+    if help || has(["--help", "-h"]) {
         return Ok(Request::Help(command));
     }
     if has(["--version", "-V"]) {

@@ -478,4 +478,6 @@ fn wrong_calls() {
         Some(0)
     );
     assert_eq!(run(&["check", "--", "-"], input).status, Some(0));
+    let (help, asked) = (run(&["help", "route"], b""), run(&["route", "--help"], b""));
+    assert_eq!((help.status, help.out), (asked.status, asked.out));
 }
