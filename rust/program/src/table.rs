@@ -185,18 +185,18 @@ fn street(row: &Row<'_>) -> Result<Segment, Fault> {
 
 fn fields(cells: &[Cow<'_, str>]) -> Result<Segment, String> {
     let mut segment = Segment::default();
-    let numbers = [
+    let due = [
         (A_NODE, 2),
         (A_LEG, 3),
         (B_NODE, 4),
         (B_LEG, 5),
         (LENGTH, 6),
-        (LANES, 9),
-        (SPEED, 10),
-        (REACH, 11),
     ];
-    for (field, column) in numbers {
+    for (field, column) in due {
         segment.set(field, number(SEGMENTS[column], &cells[column])?);
+    }
+    for (field, column) in [(LANES, 9), (SPEED, 10), (REACH, 11)] {
+        segment.set(field, number_or_none(SEGMENTS[column], &cells[column])?);
     }
     segment.set(FORM, word("form", &cells[7], &FORMS)?);
     segment.set(WAYS, 1 + word("ways", &cells[8], &WAYS_OPEN)?);
@@ -207,16 +207,15 @@ fn fields(cells: &[Cow<'_, str>]) -> Result<Segment, String> {
     Ok(segment)
 }
 
-/// A number; `-` is 0.
 fn number(what: &str, cell: &str) -> Result<u32, String> {
+    whole(cell).ok_or_else(|| format!("{what} is {}, and must be a whole number", quoted(cell)))
+}
+
+/// A number; `-` is 0.
+fn number_or_none(what: &str, cell: &str) -> Result<u32, String> {
     match cell {
         "-" => Ok(0),
-        _ => whole(cell).ok_or_else(|| {
-            format!(
-                "{what} is {}, and must be a whole number or -",
-                quoted(cell)
-            )
-        }),
+        _ => number(what, cell).map_err(|words| words + " or -"),
     }
 }
 
@@ -271,8 +270,12 @@ fn measured<'c>(
     };
     let (name, numbers) = words.split_at(from);
     let numbers: Vec<&str> = numbers.split_whitespace().collect();
+    // One lane is a lane.
+    let is = |word: &str, unit: &str| word == unit || (word == "lane" && unit == "lanes");
     let (first, second) = match numbers[..] {
-        [first, one, second, other] if [one, other] == units => (whole(first), whole(second)),
+        [first, one, second, other] if is(one, units[0]) && is(other, units[1]) => {
+            (whole(first), whole(second))
+        }
         _ => (None, None),
     };
     match (first, second) {

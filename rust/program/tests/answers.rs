@@ -3,7 +3,7 @@
 
 mod common;
 
-use common::{GRID, Json, run, table};
+use common::{GRID, Json, MEASURES, run, table};
 use oracle::Net;
 use towns::Town;
 use towns::draw::{Rng, Shape, Spot, damage, town};
@@ -30,16 +30,11 @@ fn levels_are_the_oracles() {
         assert_eq!(rows.len(), oracle.segments());
         for (s, (row, segment)) in rows.iter().zip(&town.segments).enumerate() {
             let (level, measure) = oracle.segment(s).expect("a segment");
-            let names = [
-                "lanes",
-                "reach",
-                "speed",
-                "blocking",
-                "mixed traffic",
-                "separate path",
-            ];
             assert_eq!(row.get("level").number(), usize::from(level));
-            assert_eq!(row.get("measure").text(), names[usize::from(measure) - 1]);
+            assert_eq!(
+                row.get("measure").text(),
+                MEASURES[usize::from(measure) - 1]
+            );
             assert_eq!(row.get("a").number(), usize::from(segment.a.node));
             assert_eq!(row.get("b").number(), usize::from(segment.b.node));
             assert_eq!(row.get("feet").number(), usize::from(segment.length));

@@ -8,11 +8,10 @@
 
 mod common;
 
-use common::{GRID, Place, SEGMENTS, table};
+use common::{GRID, Place, SEGMENTS, output, table};
 use std::fs;
-use std::io::Write as _;
 use std::path::PathBuf;
-use std::process::{Command, Output, Stdio};
+use std::process::Output;
 use std::sync::Mutex;
 use std::sync::atomic::{AtomicU64, Ordering};
 use std::time::{Duration, Instant, SystemTime};
@@ -239,19 +238,7 @@ impl Trial {
         let mut took = Duration::ZERO;
         for _ in 0..3 {
             let start = Instant::now();
-            let mut program = Command::new(env!("CARGO_BIN_EXE_splicereel"))
-                .args(&self.words)
-                .stdin(Stdio::piped())
-                .stdout(Stdio::piped())
-                .stderr(Stdio::piped())
-                .spawn()
-                .expect("the program");
-            let mut stdin = program.stdin.take().expect("its input");
-            let output = std::thread::scope(|scope| {
-                // A program that reads no standard input closes it early.
-                scope.spawn(move || drop(stdin.write_all(&self.file)));
-                program.wait_with_output().expect("its output")
-            });
+            let output = output(&self.words, &self.file);
             took = start.elapsed();
             if took < Duration::from_secs(1) {
                 return Ok(output);

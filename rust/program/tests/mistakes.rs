@@ -54,7 +54,8 @@ fn table_says(table: &str, due: &str) {
 
 #[test]
 fn the_table_without_mistakes_is_taken() {
-    for good in [with(ROW), mixed("| 2 |", "| 2 |"), with("")] {
+    let lane = row("nothing |\n", "island 1 lane 25 mph |\n");
+    for good in [with(ROW), mixed("| 2 |", "| 2 |"), with(""), lane] {
         assert_eq!(
             run(&["check", "-"], good.as_bytes()).status,
             Some(0),
@@ -113,15 +114,23 @@ fn rows_and_cells() {
     );
     table_says(
         &row("500", "long"),
-        "line 8: feet is 'long', and must be a whole number or -",
+        "line 8: feet is 'long', and must be a whole number",
     );
     table_says(
         &row("500", "12,5"),
-        "line 8: feet is '12,5', and must be a whole number or -",
+        "line 8: feet is '12,5', and must be a whole number",
     );
     table_says(
         &row("500", "99999999999"),
-        "line 8: feet is '99999999999', and must be a whole number or -",
+        "line 8: feet is '99999999999', and must be a whole number",
+    );
+    table_says(
+        &row("| 0 | 2 |", "| - | 2 |"),
+        "line 8: A is '-', and must be a whole number",
+    );
+    table_says(
+        &mixed("| 2 | 25 |", "| two | 25 |"),
+        "line 8: lanes is 'two', and must be a whole number or -",
     );
     table_says(
         &row("path", "tram"),

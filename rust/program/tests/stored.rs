@@ -1,6 +1,9 @@
 //! The pages that tests/splicereel stores say what the slow oracle says: which
 //! answer, its length and levels, each run, each corner and each segment.
 
+mod common;
+
+use common::MEASURES;
 use oracle::{Net, Ways};
 use std::fs;
 use std::path::{Path, PathBuf};
@@ -157,19 +160,11 @@ fn levels_are_the_oracles() {
     for (words, page) in pages {
         let oracle = network(&words[1]);
         let (heading, rows) = page.split_once('\n').expect("a heading");
-        let names = [
-            "lanes",
-            "reach",
-            "speed",
-            "blocking",
-            "mixed traffic",
-            "separate path",
-        ];
         assert_eq!(rows.lines().count(), oracle.segments());
         for (s, row) in rows.lines().enumerate() {
             let (judged, measure) = oracle.segment(s).expect("a segment");
             assert_eq!((number(row) as usize, level(row, heading)), (s, judged));
-            assert!(row.ends_with(names[usize::from(measure) - 1]), "{row}");
+            assert!(row.ends_with(MEASURES[usize::from(measure) - 1]), "{row}");
         }
     }
 }

@@ -3,8 +3,9 @@
 
 #![allow(dead_code)] // each test uses a part
 
+use std::ffi::OsStr;
 use std::io::Write;
-use std::process::{Command, Stdio};
+use std::process::{Command, Output, Stdio};
 use towns::Town;
 use towns::town::{Approach, Segment};
 
@@ -19,6 +20,16 @@ pub struct Said {
 
 /// Runs the program with these words and this standard input.
 pub fn run(words: &[&str], input: &[u8]) -> Said {
+    let output = output(words, input);
+    Said {
+        status: output.status.code(),
+        out: String::from_utf8(output.stdout).expect("text"),
+        err: String::from_utf8(output.stderr).expect("text"),
+    }
+}
+
+/// The same, with what it said as bytes.
+pub fn output<W: AsRef<OsStr>>(words: &[W], input: &[u8]) -> Output {
     let mut program = Command::new(env!("CARGO_BIN_EXE_splicereel"))
         .args(words)
         .stdin(Stdio::piped())
@@ -27,16 +38,22 @@ pub fn run(words: &[&str], input: &[u8]) -> Said {
         .spawn()
         .expect("the program");
     let mut stdin = program.stdin.take().expect("its input");
-    // A program that does not read its input closes it early.
-    let _ = stdin.write_all(input);
-    drop(stdin);
-    let output = program.wait_with_output().expect("its output");
-    Said {
-        status: output.status.code(),
-        out: String::from_utf8(output.stdout).expect("text"),
-        err: String::from_utf8(output.stderr).expect("text"),
-    }
+    std::thread::scope(|scope| {
+        // A program that does not read its input closes it early.
+        scope.spawn(move || drop(stdin.write_all(input)));
+        program.wait_with_output().expect("its output")
+    })
 }
+
+/// The measures' names, in the order of their numbers.
+pub const MEASURES: [&str; 6] = [
+    "lanes",
+    "reach",
+    "speed",
+    "blocking",
+    "mixed traffic",
+    "separate path",
+];
 
 /// A value of JSON.
 #[derive(Clone, Debug, PartialEq)]
