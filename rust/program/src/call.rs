@@ -2,6 +2,7 @@
 
 use crate::fault::{Fault, quoted};
 use crate::near::meant;
+use splicereel::Level;
 use std::ffi::OsString;
 
 /// A command.
@@ -78,15 +79,6 @@ impl Command {
         matches!(self, Command::Check | Command::Levels | Command::Route)
     }
 
-    /// Whether so many words after the file are in order.
-    fn takes(self, words: usize) -> bool {
-        match self {
-            Command::Check | Command::Levels | Command::Text => words == 0,
-            Command::Route => words == 3,
-            Command::Draw => words == 0 || words == 3,
-        }
-    }
-
     fn line(self) -> String {
         format!("splicereel {} {}", self.name(), self.usage())
     }
@@ -98,8 +90,23 @@ pub struct Call {
     pub command: Command,
     pub json: bool,
     pub file: OsString,
-    /// The words after the file.
-    pub words: Vec<String>,
+    /// The way that is asked for, where one is.
+    pub question: Option<Question>,
+}
+
+/// From where to where, as the words name it, and up to which tolerance.
+#[derive(Debug)]
+pub struct Question {
+    pub from: String,
+    pub to: String,
+    pub limit: Limit,
+}
+
+/// Up to which tolerance.
+#[derive(Clone, Copy, Debug, PartialEq, Eq)]
+pub enum Limit {
+    Within(Level),
+    Least,
 }
 
 /// What is asked.
@@ -158,14 +165,35 @@ fn call(
     let words: Vec<String> = words
         .map(|word| word.to_string_lossy().into_owned())
         .collect();
-    match command.takes(words.len()) {
-        true => Ok(Call {
-            command,
-            json,
-            file,
-            words,
+    let question = match (command, &words[..]) {
+        (Command::Check | Command::Levels | Command::Draw | Command::Text, []) => None,
+        (Command::Route | Command::Draw, [from, to, word]) => Some(Question {
+            from: from.clone(),
+            to: to.clone(),
+            limit: limit(command, word)?,
         }),
-        false => Err(miscounted(command, 1 + words.len())),
+        _ => return Err(miscounted(command, 1 + words.len())),
+    };
+    Ok(Call {
+        command,
+        json,
+        file,
+        question,
+    })
+}
+
+/// The tolerance that a word names.
+fn limit(command: Command, word: &str) -> Result<Limit, Fault> {
+    match word.parse() {
+        Ok(level) => Ok(Limit::Within(level)),
+        Err(_) if word == "least" => Ok(Limit::Least),
+        Err(_) => {
+            let near = meant(word, ["least"]);
+            let what = format!("{}: TOLERANCE is {}", command.name(), quoted(word));
+            Err(Fault::new(format!(
+                "{what}, and must be 1, 2, 3, 4 or least{near}"
+            )))
+        }
     }
 }
 

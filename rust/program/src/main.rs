@@ -26,7 +26,7 @@ mod town;
 use call::{Call, Command, Request};
 use fault::Fault;
 use json::Json;
-use route::{Asked, Limit};
+use route::Asked;
 use std::ffi::OsStr;
 use std::io::{self, ErrorKind, Write};
 use std::process::ExitCode;
@@ -146,17 +146,12 @@ fn answer(call: &Call) -> Result<(String, u8), Fault> {
         let text = table::read(&file::read(&call.file)?)?.text;
         return Ok((String::from_utf8_lossy(&text).into_owned(), ANSWERED));
     }
-    // A word that asks nothing is told before the file is read.
-    let limit = call
-        .words
-        .last()
-        .map(|word| Limit::read(word))
-        .transpose()?;
     let town = Town::read(&call.file)?;
-    let asked = match (&call.words[..], limit) {
-        ([from, to, _], Some(limit)) => Some(Asked::new(&town, [from, to], limit)?),
-        _ => None,
-    };
+    let asked = call
+        .question
+        .as_ref()
+        .map(|question| Asked::new(&town, question))
+        .transpose()?;
     let status = match &asked {
         Some(asked) if asked.found.is_none() => NONE,
         _ => ANSWERED,

@@ -24,22 +24,35 @@ pub fn has_rows(file: &[u8]) -> bool {
         .any(|line| line.trim_ascii_start().starts_with(b"|"))
 }
 
-/// The tables outside fenced blocks.
+/// The tables outside fenced blocks. What a reader would take for a row, and
+/// would be passed over here, is a fault: no row is lost in silence.
 pub fn tables(text: &str) -> Result<Vec<Table<'_>>, Fault> {
     let mut tables: Vec<Table<'_>> = Vec::new();
-    let (mut fenced, mut within) = (false, false);
+    let (mut fence, mut within) = (None, false);
     for (number, line) in (1..).zip(text.lines()) {
         let line = line.trim();
-        fenced ^= line.starts_with("```");
+        if line.starts_with("```") {
+            fence = fence.xor(Some(number));
+        }
         let before = within;
-        within = line.starts_with('|') && !fenced;
+        within = line.starts_with('|') && fence.is_none();
         match tables.last_mut().filter(|_| before) {
             Some(table) if within => table.lines.push((number, line)),
+            Some(_) if fence.is_none() && line.contains('|') => {
+                let what = format!("the row does not begin with a bar, |: {}", quoted(line));
+                return Err(Fault::at(number, what));
+            }
             _ if within => tables.push(headed(row(number, line)?)?),
             _ => {}
         }
     }
-    Ok(tables)
+    match fence {
+        Some(line) => Err(Fault::at(
+            line,
+            "the fenced block that begins here does not end",
+        )),
+        None => Ok(tables),
+    }
 }
 
 /// The name of the town: the file's first heading.

@@ -1,39 +1,14 @@
 //! `splicereel route`: a way from one place to another.
 
+use crate::call::{Limit, Question};
 use crate::corner::Corner;
-use crate::fault::{Fault, quoted};
+use crate::fault::Fault;
 use crate::json::Json;
-use crate::near::meant;
 use crate::page::{Page, Side, feet_and_miles, miles};
 use crate::segment::LENGTH;
 use crate::town::{Town, unforeseen};
 use splicereel::{Direction, Level, Route, Run};
 use std::fmt::Write as _;
-
-/// Up to which tolerance.
-#[derive(Clone, Copy, Debug, PartialEq, Eq)]
-pub enum Limit {
-    Within(Level),
-    Least,
-}
-
-impl Limit {
-    /// What a word says.
-    pub fn read(word: &str) -> Result<Limit, Fault> {
-        match word.parse() {
-            Ok(level) => Ok(Limit::Within(level)),
-            Err(_) if word == "least" => Ok(Limit::Least),
-            Err(_) => {
-                let near = meant(word, ["least"]);
-                let words = format!(
-                    "TOLERANCE is {}, and must be 1, 2, 3, 4 or least{near}",
-                    quoted(word)
-                );
-                Err(Fault::new(words))
-            }
-        }
-    }
-}
 
 /// What was asked, and the answer.
 #[derive(Debug)]
@@ -48,22 +23,27 @@ pub struct Asked<'t> {
 
 impl<'t> Asked<'t> {
     /// Asks for a route between two nodes, named or numbered.
-    pub fn new(town: &'t Town, words: [&str; 2], limit: Limit) -> Result<Asked<'t>, Fault> {
-        let (from, to) = (town.node(words[0])?, town.node(words[1])?);
-        let found = match limit {
+    pub fn new(town: &'t Town, question: &Question) -> Result<Asked<'t>, Fault> {
+        let Question {
+            from: start,
+            to: end,
+            limit,
+        } = question;
+        let (from, to) = (town.node(start)?, town.node(end)?);
+        let found = match *limit {
             Limit::Least => town.network.least_stress(from, to),
             Limit::Within(level) => {
                 let route = town.network.route(from, to, level);
                 route.map(|found| found.map(|route| (route, level)))
             }
         };
-        let asked = [(from, words[0]), (to, words[1])];
+        let asked = [(from, start.as_str()), (to, end.as_str())];
         let found = found.map_err(|refusal| town.refused(refusal, asked))?;
         Ok(Asked {
             town,
             from,
             to,
-            limit,
+            limit: *limit,
             found,
         })
     }

@@ -4,6 +4,8 @@
 mod common;
 
 use common::{SEGMENTS, run};
+use std::fs::File;
+use std::process::{Command, Stdio};
 
 const NODES: &str = "| node | place |\n|---|---|\n| 0 | here |\n| 1 | there |\n";
 const ROW: &str =
@@ -91,6 +93,10 @@ fn tables_that_are_missing_or_broken() {
         &format!("{}\n{NODES}", with(ROW)),
         "line 10: a second table of nodes: its rows belong into the one at line 1",
     );
+}
+
+#[test]
+fn rows_that_would_be_lost() {
     let parted = with(ROW).replace("| 1 | there", "\n| 1 | there");
     table_says(
         &parted,
@@ -100,10 +106,18 @@ fn tables_that_are_missing_or_broken() {
         &with(ROW).replace("| there |", "| there"),
         "line 4: the row does not end with a bar, |: '| 1 | there'",
     );
+    table_says(
+        &with(ROW).replace("| 1 | there", "1 | there"),
+        "line 4: the row does not begin with a bar, |: '1 | there |'",
+    );
+    table_says(
+        &format!("{}```\n{ROW}", with(ROW)),
+        "line 9: the fenced block that begins here does not end",
+    );
 }
 
 #[test]
-fn rows_and_cells() {
+fn rows_and_numbers() {
     table_says(
         &with("| 0 | a |\n"),
         "line 8: 2 cells, and the heading has 15",
@@ -132,6 +146,10 @@ fn rows_and_cells() {
         &mixed("| 2 | 25 |", "| two | 25 |"),
         "line 8: lanes is 'two', and must be a whole number or -",
     );
+}
+
+#[test]
+fn words_of_cells() {
     table_says(
         &row("path", "tram"),
         "line 8: form is 'tram', and must be one of: mixed, beside parking, bike lane, path",
@@ -201,6 +219,11 @@ fn fields_against_the_rules() {
         &row("path | both | -", "path | both | 2"),
         &refused("lanes is 2 and must be 0 on a separate path"),
     );
+}
+
+#[test]
+fn approaches_against_the_rules() {
+    let refused = |words: &str| format!("refused, number 4, line 8: {words}");
     table_says(
         &row("nothing |\n", "island |\n"),
         &refused("lanes crossed at A is 0 and must be 1 to 12 where lanes are crossed"),
@@ -425,11 +448,11 @@ const CALLS: [(&[&str], &str); 16] = [
     ),
     (
         &["route", "-", "0", "1", "5"],
-        "standard input: TOLERANCE is '5', and must be 1, 2, 3, 4 or least",
+        "route: TOLERANCE is '5', and must be 1, 2, 3, 4 or least",
     ),
     (
         &["route", "-", "0", "1", "Least"],
-        "standard input: TOLERANCE is 'Least', and must be 1, 2, 3, 4 or least; did you mean least?",
+        "route: TOLERANCE is 'Least', and must be 1, 2, 3, 4 or least; did you mean least?",
     ),
     (
         &["route", "-", "0", "ther", "1"],
@@ -489,4 +512,32 @@ fn wrong_calls() {
     assert_eq!(run(&["check", "--", "-"], input).status, Some(0));
     let (help, asked) = (run(&["help", "route"], b""), run(&["route", "--help"], b""));
     assert_eq!((help.status, help.out), (asked.status, asked.out));
+}
+
+/// An answer that cannot be written is a fault; one that nobody reads on is
+/// none.
+#[test]
+fn outputs_that_take_nothing() {
+    let levels = |out: Stdio| {
+        let mut program = Command::new(env!("CARGO_BIN_EXE_splicereel"));
+        let town = concat!(env!("CARGO_MANIFEST_DIR"), "/../../towns/osterbeck.md");
+        let said = program
+            .args(["levels", town])
+            .stdout(out)
+            .output()
+            .expect("the program");
+        (
+            said.status.code(),
+            String::from_utf8(said.stderr).expect("text"),
+        )
+    };
+    let full = File::options()
+        .write(true)
+        .open("/dev/full")
+        .expect("/dev/full");
+    let due = "splicereel: the answer cannot be written: No space left on device (os error 28)\n";
+    assert_eq!(levels(full.into()), (Some(2), due.to_string()));
+    let (reader, writer) = std::io::pipe().expect("a pipe");
+    drop(reader);
+    assert_eq!(levels(writer.into()), (Some(0), String::new()));
 }

@@ -3,10 +3,11 @@
 
 mod common;
 
-use common::{GRID, run, table};
+use common::{GRID, Json, run, table};
 use oracle::Net;
 use towns::Town;
 use towns::draw::{Rng, Shape, town};
+use towns::town::Segment;
 
 /// Names that a careless writer would let out of their place.
 const NAMES: [&str; 5] = ["A & B", "<b>", "\"quoted\"", "it's \\| \\", "]]>"];
@@ -34,13 +35,20 @@ fn described(map: bool) -> impl Iterator<Item = (Town, String, [String; 3])> {
     })
 }
 
-/// The number of runs of the route in the answer, by its JSON.
-fn runs(table: &str, [from, to, tolerance]: &[String; 3]) -> (Option<i32>, usize) {
+/// The answer's status, and the nodes that each run of the route leaves and
+/// reaches.
+fn ridden(table: &str, [from, to, tolerance]: &[String; 3]) -> (Option<i32>, Vec<[usize; 2]>) {
     let said = run(
         &["route", "-", from, to, tolerance, "--json"],
         table.as_bytes(),
     );
-    (said.status, said.out.matches("\"run\":").count())
+    let answer = Json::read(&said.out);
+    let runs = match said.status {
+        Some(0) => answer.get("runs").list(),
+        _ => &[],
+    };
+    let ends = |run: &Json| ["from", "to"].map(|end| run.get(end).number());
+    (said.status, runs.iter().map(ends).collect())
 }
 
 #[test]
@@ -49,28 +57,67 @@ fn maps_show_every_street_and_the_route() {
     for (town, table, asked) in described(true) {
         let [from, to, tolerance] = &asked;
         let said = run(&["draw", "-", from, to, tolerance], table.as_bytes());
-        let (status, runs) = runs(&table, &asked);
+        let (status, runs) = ridden(&table, &asked);
         assert_eq!((said.status, said.err.as_str()), (status, ""));
         let picture = Xml::read(&said.out);
-        let oracle = Net::parse(&town.bytes()).expect("a network");
-        for level in 1..=4 {
-            let due =
-                (0..oracle.segments()).filter(|&s| oracle.segment(s).expect("one").0 == level);
-            assert_eq!(
-                picture.group(&format!("level-{level}")).paths,
-                due.count(),
-                "level {level}"
-            );
-        }
+        let nodes = picture.group("nodes").circles;
+        assert_eq!(nodes.len(), usize::from(town.nodes));
+        streets(&town, &picture, &nodes);
         let one_way = town.segments.iter().filter(|segment| segment.ways != 3);
-        assert_eq!(picture.group("one-way").paths, one_way.count());
-        // The line twice, and an arrow for each run.
-        let route = if runs > 0 { runs + 2 } else { 0 };
-        assert_eq!(picture.group("route").paths, route);
-        assert_eq!(picture.group("nodes").circles, usize::from(town.nodes));
-        drawn += usize::from(runs > 0);
+        let one_way = one_way.map(|segment| match (nodes_of(segment), segment.ways) {
+            ([a, b], 1) => [a, b],
+            ([a, b], _) => [b, a],
+        });
+        arrows(
+            &picture.group("one-way").paths,
+            &one_way.collect::<Vec<_>>(),
+            &nodes,
+        );
+        // The line twice, from the one node to the other, and an arrow for each run.
+        let route = picture.group("route").paths;
+        if let [border, line, heads @ ..] = &route[..] {
+            let asked = [from, to].map(|node| nodes[node.parse::<usize>().expect("a node")]);
+            assert_eq!([border, line].map(|line| ends(line)), [asked, asked]);
+            arrows(heads, &runs, &nodes);
+        }
+        assert_eq!(route.is_empty(), runs.is_empty());
+        drawn += usize::from(!runs.is_empty());
     }
     assert!(drawn > 10, "{drawn} routes");
+}
+
+/// The nodes of a segment's ends.
+fn nodes_of(segment: &Segment) -> [usize; 2] {
+    [segment.a, segment.b].map(|end| usize::from(end.node))
+}
+
+/// Each street is drawn once, from its A end to its B end, as the oracle's
+/// level is drawn.
+fn streets(town: &Town, picture: &Xml, nodes: &[Point]) {
+    let oracle = Net::parse(&town.bytes()).expect("a network");
+    for level in 1..=4 {
+        let drawn = picture.group(&format!("level-{level}")).paths;
+        let judged = |s: &usize| oracle.segment(*s).expect("a segment").0 == level;
+        let due = (0..town.segments.len()).filter(judged);
+        let due = due.map(|s| nodes_of(&town.segments[s]).map(|node| nodes[node]));
+        assert!(drawn.iter().map(|path| ends(path)).eq(due), "level {level}");
+    }
+}
+
+/// Each arrow points from the one node to the other, where they are two that
+/// lie apart: its tip comes first, and what is behind its middle third.
+fn arrows(drawn: &[Vec<Point>], due: &[[usize; 2]], nodes: &[Point]) {
+    assert_eq!(drawn.len(), due.len());
+    for (arrow, [from, to]) in drawn.iter().zip(due) {
+        let (tip, notch, start, end) = (arrow[0], arrow[2], nodes[*from], nodes[*to]);
+        let along = (tip.0 - notch.0) * (end.0 - start.0) + (tip.1 - notch.1) * (end.1 - start.1);
+        assert!(along > 0.0 || start == end, "{arrow:?}");
+    }
+}
+
+/// The first and the last point of a path.
+fn ends(path: &[Point]) -> [Point; 2] {
+    [path[0], path[path.len() - 1]]
 }
 
 #[test]
@@ -78,7 +125,8 @@ fn graphs_have_an_edge_for_every_street_and_run() {
     for (town, table, asked) in described(false) {
         let [from, to, tolerance] = &asked;
         let said = run(&["draw", "-", from, to, tolerance], table.as_bytes());
-        let (status, runs) = runs(&table, &asked);
+        let (status, runs) = ridden(&table, &asked);
+        let runs = runs.len();
         assert_eq!((said.status, said.err.as_str()), (status, ""));
         let bare = without_strings(&said.out);
         // The legend has four.
@@ -118,12 +166,15 @@ fn without_strings(dot: &str) -> String {
     bare
 }
 
+/// A place on paper.
+type Point = (f64, f64);
+
 /// What a group of a picture holds.
 #[derive(Clone, Debug, Default)]
 struct Group {
     name: String,
-    paths: usize,
-    circles: usize,
+    paths: Vec<Vec<Point>>,
+    circles: Vec<Point>,
 }
 
 /// A picture's groups.
@@ -168,8 +219,20 @@ impl Xml {
         let Some(group) = self.groups.last_mut() else {
             return;
         };
-        group.paths += usize::from(tag == "path");
-        group.circles += usize::from(tag == "circle");
+        let value = |name: &str| {
+            attributes
+                .iter()
+                .find(|(other, _)| *other == name)
+                .expect(name)
+                .1
+        };
+        match tag {
+            "path" => group.paths.push(points(value("d"))),
+            "circle" => group
+                .circles
+                .extend(points(&format!("{} {}", value("cx"), value("cy")))),
+            _ => {}
+        }
     }
 
     /// The group of that name; an empty one where there is none.
@@ -187,27 +250,37 @@ fn entities(words: &str) {
     }
 }
 
-/// The attributes of a tag; coordinates are numbers that can be drawn.
+/// The points of a path.
+fn points(path: &str) -> Vec<Point> {
+    let numbers: Vec<f64> = numbers(path);
+    let (points, rest) = numbers.as_chunks();
+    assert!(!points.is_empty() && rest.is_empty(), "{path}");
+    points.iter().map(|[x, y]| (*x, *y)).collect()
+}
+
+/// The numbers of an attribute, each of which can be drawn.
+fn numbers(value: &str) -> Vec<f64> {
+    let parts = value.split(|letter: char| " MLQZ".contains(letter));
+    let numbers = parts
+        .filter(|part| !part.is_empty())
+        .map(|part| part.parse().expect(value));
+    let numbers: Vec<f64> = numbers.collect();
+    assert!(numbers.iter().all(|number| number.is_finite()), "{value}");
+    numbers
+}
+
+/// The attributes of a tag.
 fn read_attributes(tag: &str) -> Vec<(&str, &str)> {
     let mut rest = tag;
     let mut attributes = Vec::new();
     while let Some((name, after)) = rest.split_once("=\"") {
         let (value, after) = after.split_once('"').expect("the attribute's end");
+        let name = name.trim();
         entities(value);
-        let coordinates =
-            ["x", "y", "cx", "cy", "r", "d", "width", "height", "viewBox"].contains(&name.trim());
-        if coordinates {
-            let numbers = value
-                .split(|letter: char| " MLQZ".contains(letter))
-                .filter(|number| !number.is_empty());
-            assert!(
-                numbers
-                    .map(|number| number.parse::<f64>().expect(value))
-                    .all(f64::is_finite),
-                "{value}"
-            );
+        if ["x", "y", "r", "width", "height", "viewBox"].contains(&name) {
+            assert!(!numbers(value).is_empty());
         }
-        attributes.push((name.trim(), value));
+        attributes.push((name, value));
         rest = after;
     }
     assert_eq!(rest.trim(), "");
