@@ -124,7 +124,7 @@ fronts (x ∷ y ∷ t) =
     (fronts-cond (x ∷ y ∷ t) (isDigit x && isDigit y) _ broken (λ d. fronts-push x y t (lineOf t) d (fronts t)) tt)
 
 -- digits and 0A in their places are a line
-digit-no-end : (x : ℕ) → isDigit x ≡ true → eqb x 10 ≡ false
+pub digit-no-end : (x : ℕ) → isDigit x ≡ true → eqb x 10 ≡ false
 unfolding isDigit
 digit-no-end x d = ne-eqb x 10 (λ (e : x ≡ 10). true≢false (sym d ∙ rw e))
 

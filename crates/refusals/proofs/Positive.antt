@@ -4,7 +4,7 @@ use mathlib.Core.Path.{_≡_}
 use native.Mathlib.Omega.{arith}
 use Rattle.refusals.specs.declared.Refusal.{Refusal}
 use Rattle.refusals.specs.declared.Refusal.the-variants.{NotDigits, WrongCheck, WrongFrame, WrongField, WrongCount, LegTaken, OutputTooShort}
-use Rattle.refusals.specs.declared.Refusal.the-variants.{NotANetwork, NoSuchNode, NoSuchTolerance, NoRoom, NoSuchRun, NoMovement}
+use Rattle.refusals.specs.declared.Refusal.the-variants.{NotANetwork, NoSuchNode, NoSuchTolerance, NoRoom, NoSuchRun, NoMovement, NoRefusedLine}
 use Rattle.refusals.specs.Numbers.{numberOf}
 
 pub positive : (refusal : Refusal) → numberOf refusal ≡ 0 → ⊥
@@ -21,3 +21,4 @@ positive NoSuchTolerance z = omega arith
 positive NoRoom z = omega arith
 positive NoSuchRun z = omega arith
 positive NoMovement z = omega arith
+positive NoRefusedLine z = omega arith

@@ -1,10 +1,10 @@
--- Document 01, "The calls": the number of each refusal. Every definition and promise takes its numbers from here.
+-- Document 01, "The calls", and document 02: the number of each refusal. Every definition and promise takes its numbers from here.
 -- Assumes nothing.
 use Prim.Native.Nat.{ℕ}
 use mathlib.Core.Bool.{Bool, true, false}
 use Rattle.refusals.specs.declared.Refusal.{Refusal}
 use Rattle.refusals.specs.declared.Refusal.the-variants.{NotDigits, WrongCheck, WrongFrame, WrongField, WrongCount, LegTaken, OutputTooShort}
-use Rattle.refusals.specs.declared.Refusal.the-variants.{NotANetwork, NoSuchNode, NoSuchTolerance, NoRoom, NoSuchRun, NoMovement}
+use Rattle.refusals.specs.declared.Refusal.the-variants.{NotANetwork, NoSuchNode, NoSuchTolerance, NoRoom, NoSuchRun, NoMovement, NoRefusedLine}
 
 abbrev pub numberOf : Refusal → ℕ
 -- Read: not whole pairs of uppercase digits ended by 0A, or empty; check; wrong kind or frame length for its position; a field against the ranges or
@@ -24,6 +24,8 @@ numberOf NoSuchTolerance = 10
 numberOf NoRoom = 11
 numberOf NoSuchRun = 12
 numberOf NoMovement = 13
+-- The refused line: a text that Read would accept.
+numberOf NoRefusedLine = 14
 
 -- Tests in their order: the number of the refusal where the test fails, else what the later tests give. 0 is no refusal.
 abbrev pub unless : Bool → Refusal → ℕ → ℕ

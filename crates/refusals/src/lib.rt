@@ -30,6 +30,8 @@ pub enum Refusal {
     NoSuchRun,
     // No movement joins the two runs.
     NoMovement,
+    // Read would accept the text, so that no line of it is refused.
+    NoRefusedLine,
 }
 
 // The paper's number of a refusal.
@@ -50,5 +52,6 @@ pub fn number_of(refusal: Refusal) -> u8
         Refusal::NoRoom => 11,
         Refusal::NoSuchRun => 12,
         Refusal::NoMovement => 13,
+        Refusal::NoRefusedLine => 14,
     }
 }

@@ -7,7 +7,7 @@ use mathlib.Core.Path.{_≡_, refl}
 use mathlib.Core.List.{List, [], _∷_}
 use lib.Dec.{eqb}
 use borrow.Author.Tests.{eq-eqb}
-use Rattle.lists.proofs.Facts.{bool-cases, or-right}
+use Rattle.lists.proofs.Facts.{bool-cases, or-right, false-or}
 use Rattle.lists.proofs.Lists.{true-is-false, is-false}
 use Rattle.network.specs.Legs.{cornerA, cornerB, isIn, legsFree, taking}
 use Rattle.network.proofs.LegLaws.{Free, free, in-apart, legs-free}
@@ -24,10 +24,6 @@ record Apart (ends taken : List ℕ) : Type 0 where
 
 or-false : (a b : Bool) → a ≡ false → b ≡ false → a || b ≡ false
 or-false a b p q = simp (p, q)
-
-false-or : (a b : Bool) → a || b ≡ false → (a ≡ false) × (b ≡ false)
-false-or true b e = true-is-false e refl
-false-or false b e = (refl, e)
 
 self : (x : ℕ) (xs : List ℕ) → isIn x (x ∷ xs) ≡ true
 unfolding isIn

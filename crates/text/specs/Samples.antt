@@ -20,38 +20,38 @@ line end = 0x0A ∷ []
 line (c then cs) = code c ∷ line cs
 
 -- Heads of two nodes and one segment, two segments, none; of edition 02.
-abbrev one : List ℕ
+abbrev pub one : List ℕ
 one = line "010100020001FB"
 
-abbrev two : List ℕ
+abbrev pub two : List ℕ
 two = line "010100020002FA"
 
-abbrev no : List ℕ
+abbrev pub no : List ℕ
 no = line "010100020000FC"
 
 abbrev later : List ℕ
 later = line "010200020001FA"
 
 -- The segment of the example; the paper's line with a lowercase digit and a space; and the segment with a lowercase digit alone, another check, ways 0, node 2, and both ends at one leg.
-abbrev street : List ℕ
+abbrev pub street : List ℕ
 street = line "0200000200010601F40003021900010000000000000000000000000000E1"
 
-abbrev lowercase : List ℕ
+abbrev pub lowercase : List ℕ
 lowercase = line "0200000200010601f400030219000100000000000000000000000000000000E1 "
 
 abbrev lowered : List ℕ
 lowered = line "0200000200010601f40003021900010000000000000000000000000000E1"
 
-abbrev unchecked : List ℕ
+abbrev pub unchecked : List ℕ
 unchecked = line "0200000200010601F40003021900010000000000000000000000000000E2"
 
-abbrev noWays : List ℕ
+abbrev pub noWays : List ℕ
 noWays = line "0200000200010601F40000021900010000000000000000000000000000E4"
 
 abbrev noNode : List ℕ
 noNode = line "0200000200020601F40003021900010000000000000000000000000000E0"
 
-abbrev oneLeg : List ℕ
+abbrev pub oneLeg : List ℕ
 oneLeg = line "0200000200000201F40003021900010000000000000000000000000000E6"
 
 -- The kept bytes of the example.

@@ -200,7 +200,7 @@ fn judge_segments(text: &[u8], start: usize, first: &[u8; fields::HEAD_BYTES]) -
 }
 
 // The answer for a text and an output of `room` bytes.
-fn judge_text(text: &[u8], room: usize) -> ReadAnswer
+pub fn judge_text(text: &[u8], room: usize) -> ReadAnswer
     ensures { λ r. ⌜ told r ≡ toldOf (readOf (now (text .entry)) room) ⌝ }
 {
     if text.len() == 0 {

@@ -1,0 +1,5 @@
+pub mod Bounds
+pub mod LineLaws
+pub mod FirstFaulty
+pub mod NoteOneHolds
+pub mod SamplesHold

@@ -1,0 +1,118 @@
+// Document 02, note 1: the part of a text that holds the refused line, without its 0A, and the refusal's number. The text is judged as Read judges it, in one
+// pass; where the refused line begins is then known from the lengths of the lines before it, and only that line is searched for its end.
+ghost use Prim.Native.Nat.{_+_, _≤_};
+ghost use mathlib.Core.Path.{_≡_};
+ghost use lib.ListN.{length, drop};
+ghost use Rattle.refused_line.specs.Cursor.{cursorOf, Points};
+ghost use Rattle.refused_line.specs.Steps.Places.{lineEnd, endsWithin, Passed, Framed, Begins};
+use digits::decode_into;
+use frames::decoded::head_of;
+use frames::edition::frame_bytes;
+use frames::fields;
+use refusals::Refusal;
+use refusals::number_of;
+use text::ReadAnswer;
+use text::read::judge_text;
+
+// So many bytes of a line are looked at together.
+const BLOCK: usize = 32;
+
+// A refusal's number, and the part of the text that holds the refused line: where it begins, and its bytes.
+pub struct Cursor {
+    pub number: u8,
+    pub start: usize,
+    pub length: usize,
+}
+
+// Whether 0A is among the bytes of the block at a place. It does not stop at the first, so that the compiler can take many at a step.
+fn block_ends(text: &[u8], at: usize) -> bool
+    requires { ⌜ at + 32 ≤ length (now text) ⌝ }
+    ensures { λ r. ⌜ r ≡ endsWithin 32 (drop at (now (text .entry))) ⌝ }
+{
+    let mut found = false;
+    let mut k: usize = 0;
+    while k < BLOCK {
+        found = found | (text[at + k] == 10);
+        k += 1;
+    }
+    found
+}
+
+// Passes over the blocks from a place on that hold no 0A.
+fn pass_blocks(text: &[u8], at: usize) -> usize
+    requires { ⌜ at ≤ length (now text) ⌝ }
+    ensures { λ r. ⌜ Passed (now (text .entry)) at r ⌝ }
+{
+    let mut i = at;
+    while BLOCK <= text.len() - i {
+        if block_ends(text, i) {
+            return i;
+        }
+        i += BLOCK;
+    }
+    i
+}
+
+// Where the line that begins at a place ends: at its 0A, or at the text's end.
+fn line_end(text: &[u8], at: usize) -> usize
+    requires { ⌜ at ≤ length (now text) ⌝ }
+    ensures { λ r. ⌜ r ≡ lineEnd (now (text .entry)) at ⌝ }
+{
+    let mut i = pass_blocks(text, at);
+    while i < text.len() {
+        let next = i + 1;
+        if text[i] == 10 {
+            return i;
+        }
+        i = next;
+    }
+    i
+}
+
+// Where a refused line begins. The lines before it have no fault: they are a head's and frames', of known lengths.
+fn line_start(text: &[u8], line: usize) -> usize
+    requires { ⌜ Framed (now text) line ⌝ }
+    ensures { λ r. ⌜ Begins (now (text .entry)) line r ⌝ }
+{
+    if line < 2 {
+        return 0;
+    }
+    let mut first = [0u8; fields::HEAD_BYTES];
+    decode_into(text, 0, &mut first);
+    let head = head_of(&first);
+    let size = frame_bytes(head.edition);
+    fields::HEAD_LINE + (2 * size + 1) * (line - 2)
+}
+
+// The number and the place of the refused line of a text that Read would be asked to read into an output of `room` bytes.
+pub fn locate(text: &[u8], room: usize) -> Cursor
+    ensures { λ r. ⌜ r ≡ cursorOf (now (text .entry)) room ⌝ }
+{
+    match judge_text(text, room) {
+        ReadAnswer::Kept(_) => Cursor {
+            number: number_of(Refusal::NoRefusedLine),
+            start: text.len(),
+            length: 0,
+        },
+        ReadAnswer::Refused { refusal, line } => {
+            let start = line_start(text, line);
+            let end = line_end(text, start);
+            Cursor {
+                number: number_of(refusal),
+                start,
+                length: end - start,
+            }
+        }
+    }
+}
+
+// The same as a part of the caller's text, with the number beside it.
+pub fn refused_line<'a>(text: &'a [u8], room: usize, number: &mut u8) -> &'a [u8]
+    ensures { λ r. ⌜ Points (text .entry) room r (now (number .exit)) ⌝ }
+{
+    let cursor = locate(text, room);
+    *number = cursor.number;
+    let start = cursor.start;
+    let end = start + cursor.length;
+    &text[start..end]
+}
