@@ -1,5 +1,6 @@
 pub mod Bounds
 pub mod LineLaws
 pub mod FirstFaulty
+pub mod CursorLaws
 pub mod NoteOneHolds
 pub mod SamplesHold

@@ -6,17 +6,17 @@ use mathlib.Core.Path.{_≡_, refl, sym, ap, _∙_, subst}
 use mathlib.Core.List.{List, [], _++_}
 use mathlib.Core.Logic.{_↔_}
 use native.Mathlib.Omega.{arith}
-use lib.ListN.{length, take, drop, length-append, take-append-drop}
-use lib.Seq.{drop-at}
+use lib.ListN.{length, take, drop, length-take, length-drop, take-append-drop}
 use Rattle.text.specs.Read.{Reading, refused, kept, readOf}
 use Rattle.text.specs.Told.{told, toldOf, refusal, written}
 use Rattle.text.proofs.ReadTheorems.{told-kept}
 use Rattle.refused_line.specs.declared.Cursor.{Cursor}
-use Rattle.refused_line.specs.Lines.{firstLine, fromLine, lineStart, NoEnd, ended, IsLine}
+use Rattle.refused_line.specs.Lines.{firstLine, fromLine, NoEnd, ended, IsLine}
 use Rattle.refused_line.specs.Cursor.{cursorOf, cursorAt}
 use Rattle.refused_line.specs.NoteOne.{LineCall, ReadCall, OfRefusal, OfAcceptance, NoteOne}
-use Rattle.refused_line.proofs.LineLaws.{take-first, first-ends, first-no-end, first-inside}
-use Rattle.refused_line.proofs.FirstFaulty.{Behind, TextStopped, text-stops}
+use Rattle.refused_line.proofs.LineLaws.{take-first, first-ends, first-no-end}
+use Rattle.refused_line.proofs.FirstFaulty.{TextStopped, text-stops}
+use Rattle.refused_line.proofs.CursorLaws.{cursor-of, starts, from-start, cursor-inside}
 
 -- ---- which reading was told
 told-refused : (reading : Reading) {number k : ℕ} → refusal number k ≡ toldOf reading → reading ≡ refused number k
@@ -26,16 +26,6 @@ told-refused (kept bytes) e = let z : _≡_ {A = ℕ} 0 1 = cc in absurd (omega 
 module _ {text : List ℕ} {room : ℕ} (read : ReadCall text room) where
   pub tells : told (read .answer) ≡ toldOf (readOf text room)
   tells = read .returned .answer ∙ ap (λ (n : ℕ). toldOf (readOf text n)) (read .of-room)
-
--- ---- where a line begins, as the text's bytes before it and from it on
-module _ (t : List ℕ) (k : ℕ) (w : Behind t (fromLine k t) (k - 1)) where
-  starts : lineStart k t ≡ length (ended (w .before))
-  starts = omega (arith, ap length (w .text-is), length-append (ended (w .before)) (fromLine k t))
-
-  from-start : drop (lineStart k t) t ≡ fromLine k t
-  from-start =
-      ap (λ (n : ℕ). drop n t) starts ∙ ap (λ (x : List ℕ). drop (length (ended (w .before))) x) (w .text-is)
-      ∙ drop-at (ended (w .before)) (fromLine k t) (length (ended (w .before))) refl
 
 -- ---- what the call gave back, by the definition
 module _ {text : List ℕ} {room : ℕ} (call : LineCall text room) where
@@ -54,8 +44,7 @@ module _ {text : List ℕ} {room : ℕ} (call : LineCall text room) where
     stopped = text-stops text room e
 
     cursor-is : cursorOf text room ≡ cursorAt text (refused number k)
-    unfolding cursorOf
-    cursor-is = ap (cursorAt text) e
+    cursor-is = cursor-of text room e
 
     line-is : call .part .now ≡ firstLine (fromLine k text)
     line-is =
@@ -96,23 +85,10 @@ module _ {text : List ℕ} {room : ℕ} (call : LineCall text room) where
           no-line = no-line;
         }
 
-    refused-inside : cursorOf text room .start + length (call .part .now) ≤ length text
-    refused-inside =
-        let b = stopped .behind in
-        omega (
-          arith,
-          start-is,
-          ap length line-is,
-          first-inside (fromLine k text),
-          ap length (b .text-is),
-          length-append (ended (b .before)) (fromLine k text),
-        )
-
   -- ---- where Read accepts
   module _ {bytes : List ℕ} (e : readOf text room ≡ kept bytes) where
     cursor-at-end : cursorOf text room ≡ cursorAt text (kept bytes)
-    unfolding cursorOf
-    cursor-at-end = ap (cursorAt text) e
+    cursor-at-end = cursor-of text room e
 
     of-acceptance : OfAcceptance call
     of-acceptance =
@@ -123,11 +99,9 @@ module _ {text : List ℕ} {room : ℕ} (call : LineCall text room) where
         }
 
   inside : cursorOf text room .start + length (call .part .now) ≤ length text
-  inside = go (readOf text room) refl
-    where
-      go : (r : Reading) → readOf text room ≡ r → cursorOf text room .start + length (call .part .now) ≤ length text
-      go (refused number k) e = refused-inside e
-      go (kept bytes) e = let w = of-acceptance e in omega (arith, w .at-end, ap length (w .empty))
+  inside =
+      let start = cursorOf text room .start in
+      omega (arith, cursor-inside text room, ap length part-is, length-take (cursorOf text room .length) (drop start text), length-drop start text)
 
   fourteen : (read : ReadCall text room) → call .number ≡ 14 → (count : ℕ) × (told (read .answer) ≡ written count)
   fourteen read n = go (readOf text room) refl
