@@ -2,9 +2,9 @@
 -- Assumes nothing.
 use Prim.Native.Nat.{_-_}
 use native.Mathlib.Omega.{arith}
-use Rattle.refused_line.proofs.LineLaws.{Looking, looking-starts, looking-goes-on, looking-ends}
-use Rattle.refused_line.proofs.block_ends.Statement.{statement}
-use Rattle.refused_line.proofs.block_ends.Tie as tie
+use Rattle.cursor.proofs.LineLaws.{Looking, looking-starts, looking-goes-on, looking-ends}
+use Rattle.cursor.proofs.block_ends.Statement.{statement}
+use Rattle.cursor.proofs.block_ends.Tie as tie
 
 abbrev Inv-loop : tie.InvT-loop
 Inv-loop text at found₀ k₀ found k = Looking 32 text at k found

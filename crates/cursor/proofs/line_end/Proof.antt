@@ -3,10 +3,10 @@
 use Prim.Native.Nat.{_-_}
 use native.Mathlib.Omega.{arith}
 use lib.ListN.{length}
-use Rattle.refused_line.specs.Steps.Places.{Passed}
-use Rattle.refused_line.proofs.LineLaws.{byte-passed, ends-here, ends-out}
-use Rattle.refused_line.proofs.line_end.Statement.{statement}
-use Rattle.refused_line.proofs.line_end.Tie as tie
+use Rattle.cursor.specs.Steps.Places.{Passed}
+use Rattle.cursor.proofs.LineLaws.{byte-passed, ends-here, ends-out}
+use Rattle.cursor.proofs.line_end.Statement.{statement}
+use Rattle.cursor.proofs.line_end.Tie as tie
 
 abbrev Inv-loop : tie.InvT-loop
 Inv-loop text at i₀ i = Passed text at i

@@ -8,11 +8,11 @@ use native.Mathlib.Omega.{arith}
 use lib.ListN.{length, drop, length-append}
 use lib.Seq.{drop-at}
 use Rattle.text.specs.Read.{Reading, refused, kept, readOf}
-use Rattle.refused_line.specs.declared.Cursor.{Cursor}
-use Rattle.refused_line.specs.Lines.{firstLine, fromLine, lineStart, ended}
-use Rattle.refused_line.specs.Cursor.{cursorAt, cursorOf}
-use Rattle.refused_line.proofs.LineLaws.{first-inside}
-use Rattle.refused_line.proofs.FirstFaulty.{Behind, text-stops}
+use Rattle.cursor.specs.declared.Cursor.{Cursor}
+use Rattle.cursor.specs.Lines.{firstLine, fromLine, lineStart, ended}
+use Rattle.cursor.specs.Cursor.{cursorAt, cursorOf}
+use Rattle.cursor.proofs.LineLaws.{first-inside}
+use Rattle.cursor.proofs.FirstFaulty.{Behind, text-stops}
 
 module _ (t : List ℕ) (k : ℕ) (w : Behind t (fromLine k t) (k - 1)) where
   pub starts : lineStart k t ≡ length (ended (w .before))

@@ -9,9 +9,9 @@ use Rattle.network.specs.Legs.{isIn, legsFree}
 use Rattle.network.specs.Faults.{segmentFault}
 use Rattle.digits.specs.Digits.{isDigit, digit, lineOf}
 use Rattle.text.specs.Read.{segmentLines, readOf}
-use Rattle.refused_line.specs.Lines.{firstLine, afterLine, afterLines}
-use Rattle.refused_line.specs.Cursor.{cursorOf}
-use Rattle.refused_line.specs.Samples.{Samples}
+use Rattle.cursor.specs.Lines.{firstLine, afterLine, afterLines}
+use Rattle.cursor.specs.Cursor.{cursorOf}
+use Rattle.cursor.specs.Samples.{Samples}
 
 pub samples : Samples
 unfolding isDigit digit lineOf editionOk mostNodes mostSegments extra lengthBytes frameBytes mostFeet marksOk crossesNothing number total checkOk feet headOk endsOk formOk crossingOk turnLaneOk approachOk streetOk isIn legsFree framed headFault segmentFault segmentLines readOf firstLine afterLine afterLines cursorOf

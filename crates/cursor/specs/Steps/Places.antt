@@ -9,7 +9,7 @@ use lib.ListN.{length, getD, drop}
 use Rattle.frames.specs.Edition.{frameBytes}
 use Rattle.frames.specs.Frame.{headBytes, edition}
 use Rattle.digits.specs.Steps.Scan.{spelled}
-use Rattle.refused_line.specs.Lines.{firstLine, fromLine, lineStart}
+use Rattle.cursor.specs.Lines.{firstLine, fromLine, lineStart}
 
 -- Where the line that begins at a place ends: at its 0A, or at the text's end.
 unfoldable pub lineEnd : List ℕ → ℕ → ℕ

@@ -17,8 +17,8 @@ use Rattle.frames.specs.Faults.{framed, headFault}
 use Rattle.network.specs.Legs.{taking, legsFree}
 use Rattle.network.specs.Faults.{segmentFault}
 use Rattle.network.specs.Network.{keptBytes}
-use Rattle.refused_line.specs.Lines.{afterLine}
-use Rattle.refused_line.specs.LineFault.{frameOf, orElse, firstFault, laterFault}
+use Rattle.cursor.specs.Lines.{afterLine}
+use Rattle.cursor.specs.LineFault.{frameOf, orElse, firstFault, laterFault}
 
 unless-most : (m : ℕ) (b : Bool) (refusal : Refusal) (later : ℕ) → numberOf refusal ≤ m → later ≤ m → unless b refusal later ≤ m
 unless-most m true refusal later p q = q

@@ -10,13 +10,13 @@ use lib.ListN.{length, take, drop, length-take, length-drop, take-append-drop}
 use Rattle.text.specs.Read.{Reading, refused, kept, readOf}
 use Rattle.text.specs.Told.{told, toldOf, refusal, written}
 use Rattle.text.proofs.ReadTheorems.{told-kept}
-use Rattle.refused_line.specs.declared.Cursor.{Cursor}
-use Rattle.refused_line.specs.Lines.{firstLine, fromLine, NoEnd, ended, IsLine}
-use Rattle.refused_line.specs.Cursor.{cursorOf, cursorAt}
-use Rattle.refused_line.specs.NoteOne.{LineCall, ReadCall, OfRefusal, OfAcceptance, NoteOne}
-use Rattle.refused_line.proofs.LineLaws.{take-first, first-ends, first-no-end}
-use Rattle.refused_line.proofs.FirstFaulty.{TextStopped, text-stops}
-use Rattle.refused_line.proofs.CursorLaws.{cursor-of, starts, from-start, cursor-inside}
+use Rattle.cursor.specs.declared.Cursor.{Cursor}
+use Rattle.cursor.specs.Lines.{firstLine, fromLine, NoEnd, ended, IsLine}
+use Rattle.cursor.specs.Cursor.{cursorOf, cursorAt}
+use Rattle.cursor.specs.NoteOne.{LineCall, ReadCall, OfRefusal, OfAcceptance, NoteOne}
+use Rattle.cursor.proofs.LineLaws.{take-first, first-ends, first-no-end}
+use Rattle.cursor.proofs.FirstFaulty.{TextStopped, text-stops}
+use Rattle.cursor.proofs.CursorLaws.{cursor-of, starts, from-start, cursor-inside}
 
 -- ---- which reading was told
 told-refused : (reading : Reading) {number k : ℕ} → refusal number k ≡ toldOf reading → reading ≡ refused number k

@@ -11,9 +11,9 @@ use Rattle.refusals.specs.declared.Refusal.the-variants.{OutputTooShort, NoRefu
 use Rattle.refusals.specs.Numbers.{numberOf}
 use Rattle.text.specs.declared.ReadAnswer.{ReadAnswer}
 use Rattle.text.specs.Told.{told, refusal, written, ReadDid}
-use Rattle.refused_line.specs.Lines.{fromLine, IsLine}
-use Rattle.refused_line.specs.Cursor.{Points, cursorOf}
-use Rattle.refused_line.specs.LineFault.{FirstFaulty}
+use Rattle.cursor.specs.Lines.{fromLine, IsLine}
+use Rattle.cursor.specs.Cursor.{Points, cursorOf}
+use Rattle.cursor.specs.LineFault.{FirstFaulty}
 
 -- A call: the text that was lent, the part that came back, and the number that was written. `returned` is the contract of the call.
 pub record LineCall (text : List ℕ) (room : ℕ) : Type 0 where

@@ -3,8 +3,8 @@
 ghost use Prim.Native.Nat.{_+_, _≤_};
 ghost use mathlib.Core.Path.{_≡_};
 ghost use lib.ListN.{length, drop};
-ghost use Rattle.refused_line.specs.Cursor.{cursorOf, Points};
-ghost use Rattle.refused_line.specs.Steps.Places.{lineEnd, endsWithin, Passed, Framed, Begins};
+ghost use Rattle.cursor.specs.Cursor.{cursorOf, Points};
+ghost use Rattle.cursor.specs.Steps.Places.{lineEnd, endsWithin, Passed, Framed, Begins};
 use digits::decode_into;
 use frames::decoded::head_of;
 use frames::edition::frame_bytes;

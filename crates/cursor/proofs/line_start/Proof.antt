@@ -11,10 +11,10 @@ use Rattle.frames.specs.Edition.{frameBytes}
 use Rattle.frames.specs.Frame.{edition}
 use Rattle.frames.specs.Decoded.{headFields}
 use Rattle.digits.specs.Steps.Scan.{spelled}
-use Rattle.refused_line.specs.Lines.{afterLines}
-use Rattle.refused_line.specs.Steps.Places.{afterFrames, Framed, Begins}
-use Rattle.refused_line.proofs.line_start.Statement.{statement}
-use Rattle.refused_line.proofs.line_start.Tie as tie
+use Rattle.cursor.specs.Lines.{afterLines}
+use Rattle.cursor.specs.Steps.Places.{afterFrames, Framed, Begins}
+use Rattle.cursor.proofs.line_start.Statement.{statement}
+use Rattle.cursor.proofs.line_start.Tie as tie
 
 first-begins : {t : List ℕ} {k : ℕ} → k < 2 → Begins t k 0
 unfolding afterLines

@@ -4,10 +4,10 @@ use Prim.Native.Nat.{_-_}
 use mathlib.Core.Path.{sym, _∙_}
 use native.Mathlib.Omega.{arith}
 use lib.ListN.{length}
-use Rattle.refused_line.specs.Steps.Places.{Passed}
-use Rattle.refused_line.proofs.LineLaws.{none-passed, block-passed}
-use Rattle.refused_line.proofs.pass_blocks.Statement.{statement}
-use Rattle.refused_line.proofs.pass_blocks.Tie as tie
+use Rattle.cursor.specs.Steps.Places.{Passed}
+use Rattle.cursor.proofs.LineLaws.{none-passed, block-passed}
+use Rattle.cursor.proofs.pass_blocks.Statement.{statement}
+use Rattle.cursor.proofs.pass_blocks.Tie as tie
 
 abbrev Inv-loop : tie.InvT-loop
 Inv-loop text at i₀ i = Passed text at i

@@ -16,8 +16,8 @@ use Rattle.lists.proofs.Lists.{drop-one, true-is-false}
 use Rattle.digits.specs.Digits.{isDigit, lineOf, bytesOf, restOf}
 use Rattle.digits.specs.Steps.Scan.{areDigits}
 use Rattle.digits.proofs.DigitLaws.{digit-no-end, line-digits, line-after}
-use Rattle.refused_line.specs.Lines.{firstLine, afterLine, NoEnd, Ends}
-use Rattle.refused_line.specs.Steps.Places.{lineEnd, endsWithin, Passed}
+use Rattle.cursor.specs.Lines.{firstLine, afterLine, NoEnd, Ends}
+use Rattle.cursor.specs.Steps.Places.{lineEnd, endsWithin, Passed}
 
 -- ---- the first line of any text: it is the front, it has no 0A, and its 0A or the text's end comes next
 pub take-first : (u : List ℕ) → take (length (firstLine u)) u ≡ firstLine u

@@ -14,13 +14,13 @@ use Rattle.text.specs.declared.ReadAnswer.the-variants.{Refused, Kept}
 use Rattle.text.specs.Read.{readOf}
 use Rattle.text.specs.Told.{told, toldOf}
 use Rattle.text.proofs.KeptText.{was-refused, was-kept}
-use Rattle.refused_line.specs.Lines.{firstLine, fromLine, lineStart}
-use Rattle.refused_line.specs.Cursor.{cursorWith, cursorOf}
-use Rattle.refused_line.specs.Steps.Places.{lineEnd, Framed, Begins}
-use Rattle.refused_line.proofs.FirstFaulty.{text-stops}
-use Rattle.refused_line.proofs.CursorLaws.{cursor-of}
-use Rattle.refused_line.proofs.locate.Statement.{statement}
-use Rattle.refused_line.proofs.locate.Tie as tie
+use Rattle.cursor.specs.Lines.{firstLine, fromLine, lineStart}
+use Rattle.cursor.specs.Cursor.{cursorWith, cursorOf}
+use Rattle.cursor.specs.Steps.Places.{lineEnd, Framed, Begins}
+use Rattle.cursor.proofs.FirstFaulty.{text-stops}
+use Rattle.cursor.proofs.CursorLaws.{cursor-of}
+use Rattle.cursor.proofs.locate.Statement.{statement}
+use Rattle.cursor.proofs.locate.Tie as tie
 
 accepts : (t : List ℕ) (room : ℕ) {count number : ℕ} → told (Kept count) ≡ toldOf (readOf t room) → number ≡ numberOf NoRefusedLine
     → cursorWith number (length t) 0 ≡ cursorOf t room

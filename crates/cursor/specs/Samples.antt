@@ -5,7 +5,7 @@ use Prim.Native.Nat.{ℕ}
 use mathlib.Core.Path.{_≡_}
 use mathlib.Core.List.{List, [], _++_}
 use Rattle.text.specs.Samples.{characters, line, one, two, no, street, lowercase, unchecked, noWays, oneLeg}
-use Rattle.refused_line.specs.Cursor.{cursorWith, cursorOf}
+use Rattle.cursor.specs.Cursor.{cursorWith, cursorOf}
 
 pub record Samples : Type 0 where
   -- The first, a middle and the last line; a last line without its 0A; an empty line, at its place; a carriage return belongs to its line.

@@ -15,7 +15,7 @@ use Rattle.network.specs.Legs.{taking}
 use Rattle.network.specs.Faults.{segmentFault}
 use Rattle.network.specs.Network.{keptBytes}
 use Rattle.digits.specs.Digits.{lineOf, bytesOf}
-use Rattle.refused_line.specs.Lines.{afterLine}
+use Rattle.cursor.specs.Lines.{afterLine}
 
 -- The bytes that a text's first line spells; none where it is no frame.
 abbrev pub frameOf : List ℕ → List ℕ

@@ -30,11 +30,11 @@ use Rattle.digits.specs.Steps.Scan.{spelled}
 use Rattle.digits.proofs.DigitLaws.{line-spells}
 use Rattle.text.specs.Accepted.{count, Each}
 use Rattle.text.specs.Read.{Reading, refused, kept, unlessFault, segmentLines, afterHead, readOf}
-use Rattle.refused_line.specs.Lines.{firstLine, afterLine, afterLines, fromLine, NoEnd, ended}
-use Rattle.refused_line.specs.LineFault.{frameOf, orElse, firstFault, laterFault, faultOfLine, FirstFaulty}
-use Rattle.refused_line.specs.Steps.Places.{afterFrames, Framed}
-use Rattle.refused_line.proofs.Bounds.{first-most, later-most}
-use Rattle.refused_line.proofs.LineLaws.{FrameLine, frame-line, first-no-end}
+use Rattle.cursor.specs.Lines.{firstLine, afterLine, afterLines, fromLine, NoEnd, ended}
+use Rattle.cursor.specs.LineFault.{frameOf, orElse, firstFault, laterFault, faultOfLine, FirstFaulty}
+use Rattle.cursor.specs.Steps.Places.{afterFrames, Framed}
+use Rattle.cursor.proofs.Bounds.{first-most, later-most}
+use Rattle.cursor.proofs.LineLaws.{FrameLine, frame-line, first-no-end}
 
 -- ---- one refusal is another, and no acceptance
 same-refusal : {a b x k : ℕ} → refused a b ≡ refused x k → (a ≡ x) × (b ≡ k)

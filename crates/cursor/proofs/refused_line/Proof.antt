@@ -6,11 +6,11 @@ use mathlib.Core.Path.{_≡_, refl, ap, _∙_}
 use native.Mathlib.Omega.{arith}
 use lib.ListN.{length, take, drop}
 use borrow.Author.Needs.{needs}
-use Rattle.refused_line.specs.declared.Cursor.{Cursor}
-use Rattle.refused_line.specs.Cursor.{cursorOf}
-use Rattle.refused_line.proofs.CursorLaws.{cursor-inside}
-use Rattle.refused_line.proofs.refused_line.Statement.{statement}
-use Rattle.refused_line.proofs.refused_line.Tie as tie
+use Rattle.cursor.specs.declared.Cursor.{Cursor}
+use Rattle.cursor.specs.Cursor.{cursorOf}
+use Rattle.cursor.proofs.CursorLaws.{cursor-inside}
+use Rattle.cursor.proofs.refused_line.Statement.{statement}
+use Rattle.cursor.proofs.refused_line.Tie as tie
 
 module _ (t : List ℕ) (room : ℕ) {r : Cursor} (e : r ≡ cursorOf t room) where
   inside : r .start + r .length ≤ length t

@@ -10,8 +10,8 @@ use denote.Ref.{RefT}
 use Rattle.refusals.specs.declared.Refusal.the-variants.{NoRefusedLine}
 use Rattle.refusals.specs.Numbers.{numberOf}
 use Rattle.text.specs.Read.{Reading, refused, kept, readOf}
-use Rattle.refused_line.specs.declared.Cursor.{Cursor}
-use Rattle.refused_line.specs.Lines.{firstLine, fromLine, lineStart}
+use Rattle.cursor.specs.declared.Cursor.{Cursor}
+use Rattle.cursor.specs.Lines.{firstLine, fromLine, lineStart}
 
 -- A refusal's number, where the part begins in the text, and its bytes.
 abbrev pub cursorWith : ℕ → ℕ → ℕ → Cursor
