@@ -43,14 +43,14 @@ fn pass_blocks(text: &[u8], at: usize) -> usize
     requires { ⌜ at ≤ length (now text) ⌝ }
     ensures { λ r. ⌜ Passed (now (text .entry)) at r ⌝ }
 {
-    let mut i = at;
-    while BLOCK <= text.len() - i {
-        if block_ends(text, i) {
-            return i;
+    let mut place = at;
+    while BLOCK <= text.len() - place {
+        if block_ends(text, place) {
+            return place;
         }
-        i += BLOCK;
+        place += BLOCK;
     }
-    i
+    place
 }
 
 // Where the line that begins at a place ends: at its 0A, or at the text's end.

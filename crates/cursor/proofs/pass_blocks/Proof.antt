@@ -10,10 +10,10 @@ use Rattle.cursor.proofs.pass_blocks.Statement.{statement}
 use Rattle.cursor.proofs.pass_blocks.Tie as tie
 
 abbrev Inv-loop : tie.InvT-loop
-Inv-loop text at i₀ i = Passed text at i
+Inv-loop text at place₀ place = Passed text at place
 
 abbrev μ-loop : tie.MeasureT-loop
-μ-loop text at i₀ i = length text - i
+μ-loop text at place₀ place = length text - place
 
 loop-holds : tie.Need-loop-holds Inv-loop μ-loop
 loop-holds c = none-passed (c .before .pre)
@@ -27,8 +27,8 @@ block-ends-requires c κs = omega (arith, c .before .loop .inv .inside)
 returns : tie.Need-returns Inv-loop μ-loop
 returns c = c .before .before .before .loop .inv
 
-add-i : tie.Need-add-i Inv-loop μ-loop
-add-i c = omega (arith, c .before .before .before .loop .inv .inside)
+add-place : tie.Need-add-place Inv-loop μ-loop
+add-place c = omega (arith, c .before .before .before .loop .inv .inside)
 
 loop-less : tie.Need-loop-less Inv-loop μ-loop
 loop-less c = omega (arith, c .before .before .before .loop .inv .inside)
@@ -44,4 +44,4 @@ returns-2 c = c .before .loop .inv
 pub pass-blocks-spec : {M : Type 1} → statement M
 pass-blocks-spec =
     tie.close
-    (tie.spec Inv-loop μ-loop loop-holds sub-loop block-ends-requires returns add-i loop-less loop-again returns-2)
+    (tie.spec Inv-loop μ-loop loop-holds sub-loop block-ends-requires returns add-place loop-less loop-again returns-2)
