@@ -96,11 +96,11 @@ pub fn locate(text: &[u8], room: usize) -> Cursor
         },
         ReadAnswer::Refused { refusal, line } => {
             let start = line_start(text, line);
-            let end = line_end(text, start);
+            let length = line_end(text, start) - start;
             Cursor {
                 number: number_of(refusal),
                 start,
-                length: end - start,
+                length,
             }
         }
     }

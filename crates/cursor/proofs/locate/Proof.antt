@@ -62,11 +62,11 @@ line-start-requires c κs = framed _ _ (c .before .refusal .given .0 .0) (ap tol
 line-end-requires : tie.Need-line-end-requires
 line-end-requires c κs = search needs
 
+sub-length : tie.Need-sub-length
+sub-length c = ends-after _ (c .line-end .ensures)
+
 number-of-requires-2 : tie.Need-number-of-requires-2
 number-of-requires-2 c κs = search needs
-
-sub-t13 : tie.Need-sub-t13
-sub-t13 c = ends-after _ (c .before .line-end .ensures)
 
 returns : tie.Need-returns
 returns c = accepts _ _ (ap told (sym (c .before .enum-told .given .1)) ∙ c .before .before .before .judge-text .ensures) (c .number-of .ensures)
@@ -86,7 +86,7 @@ locate-spec =
     enum-known-refusal
     line-start-requires
     line-end-requires
+    sub-length
     number-of-requires-2
-    sub-t13
     returns
     returns-2)

@@ -34,7 +34,7 @@ part-result-start : tie.Need-part-result-start
 part-result-start c = search needs
 
 part-result-end : tie.Need-part-result-end
-part-result-end c = inside _ _ (c .before .locate .ensures)
+part-result-end c = omega (arith, inside _ _ (c .before .locate .ensures))
 
 returns : tie.Need-returns
 returns c =
