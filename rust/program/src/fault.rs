@@ -1,5 +1,6 @@
 //! Why there is no answer.
 
+use crate::cursor::Cursor;
 use splicereel::Refusal;
 
 /// What is wrong, for a person to mend.
@@ -11,6 +12,8 @@ pub struct Fault {
     pub refusal: Option<Refusal>,
     /// What to mend, in one line.
     pub words: String,
+    /// The line itself, where it is one of a network text that Read refused.
+    pub cursor: Option<Box<Cursor>>,
 }
 
 impl Fault {
@@ -20,6 +23,7 @@ impl Fault {
             line: None,
             refusal: None,
             words: words.into(),
+            cursor: None,
         }
     }
 
@@ -39,7 +43,7 @@ impl Fault {
         }
     }
 
-    /// All of it in one line.
+    /// All of it in one line, but for the refused line itself.
     pub fn sentence(&self) -> String {
         let refused = self.refusal.map(|refusal| match refusal.number() {
             0 => "refused".to_string(),
@@ -50,6 +54,14 @@ impl Fault {
         match before.is_empty() {
             true => self.words.clone(),
             false => format!("{}: {}", before.join(", "), self.words),
+        }
+    }
+
+    /// The refused line itself, in lines that stand below the sentence.
+    pub fn shown(&self) -> String {
+        match (self.line, &self.cursor) {
+            (Some(number), Some(cursor)) => cursor.lines(number),
+            _ => String::new(),
         }
     }
 }

@@ -8,6 +8,7 @@
 
 mod call;
 mod corner;
+mod cursor;
 mod draw;
 mod explain;
 mod fault;
@@ -44,31 +45,35 @@ struct Said {
     answer: String,
     /// One line on what is wrong.
     fault: Option<String>,
+    /// What stands below that line: the refused line of a network text.
+    below: String,
     status: u8,
 }
 
 fn main() -> ExitCode {
     let said = match call::read(std::env::args_os().skip(1).collect()) {
-        Ok(Request::Help(command)) => answered(call::help(command)),
-        Ok(Request::Version) => answered(call::version() + "\n"),
+        Ok(Request::Help(command)) => answered(call::help(command), ANSWERED),
+        Ok(Request::Version) => answered(call::version() + "\n", ANSWERED),
         Ok(Request::Do(call)) => run(&call),
         Err(fault) => Said {
             answer: String::new(),
             fault: Some(fault.sentence()),
+            below: String::new(),
             status: REFUSED,
         },
     };
     if let Some(fault) = said.fault {
-        complain(&fault);
+        complain(&fault, &said.below);
     }
     ExitCode::from(write(&said.answer, said.status))
 }
 
-fn answered(answer: String) -> Said {
+fn answered(answer: String, status: u8) -> Said {
     Said {
         answer,
         fault: None,
-        status: ANSWERED,
+        below: String::new(),
+        status,
     }
 }
 
@@ -78,30 +83,25 @@ fn write(answer: &str, status: u8) -> u8 {
     let mut out = io::stdout().lock();
     match out.write_all(answer.as_bytes()).and_then(|()| out.flush()) {
         Err(error) if error.kind() != ErrorKind::BrokenPipe => {
-            complain(&format!("the answer cannot be written: {error}"));
+            complain(&format!("the answer cannot be written: {error}"), "");
             REFUSED
         }
         _ => status,
     }
 }
 
-/// One line on standard error; nothing is to be done where it cannot be
-/// written.
-fn complain(words: &str) {
+/// One line on standard error, and below it the refused line; nothing is to be
+/// done where they cannot be written.
+fn complain(words: &str, below: &str) {
     let words: String = words.chars().map(fault::printable).collect();
-    let _ = writeln!(io::stderr(), "splicereel: {words}");
+    let said = format!("splicereel: {words}\n{below}");
+    let _ = io::stderr().write_all(said.as_bytes());
 }
 
 /// Makes a call.
 fn run(call: &Call) -> Said {
     let fault = match answer(call) {
-        Ok((answer, status)) => {
-            return Said {
-                answer,
-                fault: None,
-                status,
-            };
-        }
+        Ok((answer, status)) => return answered(answer, status),
         Err(fault) => fault,
     };
     let file = file_name(&call.file);
@@ -112,6 +112,7 @@ fn run(call: &Call) -> Said {
             String::new()
         },
         fault: Some(format!("{file}: {}", fault.sentence())),
+        below: fault.shown(),
         status: REFUSED,
     }
 }
@@ -131,13 +132,15 @@ fn file_name(file: &OsStr) -> String {
 /// A fault for scripts.
 fn refusal(file: &str, fault: &Fault) -> Json {
     let number = fault.refusal.map(|refusal| Json::number(refusal.number()));
-    Json::Object(vec![
+    let mut fields = vec![
         ("file", Json::text(file)),
         ("answer", Json::text("refused")),
         ("refusal", number.unwrap_or(Json::Null)),
         ("line", fault.line.map_or(Json::Null, Json::number)),
         ("words", Json::text(&fault.words)),
-    ])
+    ];
+    fields.extend(cursor::json(fault.cursor.as_deref()));
+    Json::Object(fields)
 }
 
 /// The answer to a call, and its status.

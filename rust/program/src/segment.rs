@@ -1,10 +1,11 @@
-//! A segment's frame, field by field: its layout, and what may stand in it.
+//! A segment's frame, field by field: its layout, and what may stand in it; and
+//! the layout of a head.
 //!
 //! Nothing here decides anything. A file is accepted or refused by the proved
 //! calls; this reads the fields that a page shows, writes those of a table as a
 //! frame, and finds the words for a frame that was refused.
 
-use std::ops::RangeInclusive;
+use std::ops::{Range, RangeInclusive};
 
 /// Name and width in bytes of each field, in the order of the frame, between
 /// its kind and its check.
@@ -33,6 +34,9 @@ const LAYOUT: [(&str, usize); 23] = [
     ("turn-lane length at A", 2),
     ("turning speed at A", 1),
 ];
+
+/// The same of a head.
+const HEAD_LAYOUT: [(&str, usize); 3] = [("edition", 1), ("nodes", 2), ("segments", 2)];
 
 /// Places in the layout.
 pub const A_NODE: usize = 0;
@@ -68,10 +72,49 @@ pub fn name(field: usize) -> &'static str {
     LAYOUT[field].0
 }
 
-/// The bytes of a field: the first, counted from 0 at the kind, and the last.
-pub fn bytes(field: usize) -> RangeInclusive<usize> {
-    let before: usize = LAYOUT[..field].iter().map(|(_, width)| width).sum();
-    before + 1..=before + LAYOUT[field].1
+/// A field as it stands in a frame's line.
+#[derive(Clone, Debug, PartialEq, Eq)]
+pub struct Field {
+    pub name: &'static str,
+    /// Its digits, counted from 0 at the line's first.
+    pub digits: Range<usize>,
+    pub number: u32,
+}
+
+/// The fields of a head, kind and check too; those past its end are 0.
+pub fn head_fields(frame: &[u8]) -> Vec<Field> {
+    fields(&HEAD_LAYOUT, frame)
+}
+
+/// The fields of a segment, kind and check too; those past its end are 0.
+pub fn segment_fields(frame: &[u8]) -> Vec<Field> {
+    fields(&LAYOUT, frame)
+}
+
+fn fields(layout: &[(&'static str, usize)], frame: &[u8]) -> Vec<Field> {
+    let (kind, check) = ([("kind", 1)], [("check", 1)]);
+    let mut end = 0;
+    let field = |&(name, width): &(&'static str, usize)| {
+        let start = end;
+        end += width;
+        let bytes = frame.get(start..end).unwrap_or(&[]);
+        Field {
+            name,
+            digits: 2 * start..2 * end,
+            number: bytes
+                .iter()
+                .fold(0, |sum, &byte| sum << 8 | u32::from(byte)),
+        }
+    };
+    kind.iter().chain(layout).chain(&check).map(field).collect()
+}
+
+/// The digits of fields of a segment that stand together, counted from 0 at
+/// the line's first.
+pub fn digits(together: RangeInclusive<usize>) -> Range<usize> {
+    let fields = segment_fields(&[]);
+    // The kind stands before them.
+    fields[1 + together.start()].digits.start..fields[1 + together.end()].digits.end
 }
 
 /// A segment as its fields' numbers.
@@ -82,11 +125,10 @@ impl Segment {
     /// The fields of a frame; those past its end are 0.
     pub fn decode(frame: &[u8]) -> Segment {
         let mut segment = Segment::default();
-        for (field, number) in segment.0.iter_mut().enumerate() {
-            let digits = frame.get(bytes(field)).unwrap_or(&[]);
-            *number = digits
-                .iter()
-                .fold(0, |sum, &byte| sum << 8 | u32::from(byte));
+        // The kind stands before them.
+        let fields = segment_fields(frame).into_iter().skip(1);
+        for (number, field) in segment.0.iter_mut().zip(fields) {
+            *number = field.number;
         }
         segment
     }

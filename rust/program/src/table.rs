@@ -327,16 +327,17 @@ impl Made<'_> {
     fn fault(&self, refused: ReadRefusal) -> Fault {
         let segment = (refused.line as usize).checked_sub(2);
         let row = segment.and_then(|segment| self.rows.get(segment));
-        let nodes = explain::counts(self.places.len(), 0).is_some();
-        let heading = self.headings[if nodes { 0 } else { 1 }];
-        let words = segment.map_or_else(
-            || explain::counts(self.places.len(), self.streets.len()),
-            |segment| self.segment_words(segment, refused.refusal),
-        );
+        let count = explain::counts([self.places.len(), self.streets.len()]);
+        let heading = self.headings[count.as_ref().map_or(1, |(which, _)| *which)];
+        let words = match segment {
+            Some(segment) => self.segment_words(segment, refused.refusal),
+            None => count.map(|(_, words)| words),
+        };
         Fault {
             line: Some(row.map_or(heading, |row| row.line)),
             refusal: Some(refused.refusal),
             words: words.unwrap_or_else(|| refused.refusal.to_string()),
+            cursor: None,
         }
     }
 
