@@ -57,7 +57,7 @@ impl Command {
     fn more(self) -> &'static str {
         match self {
             Command::Check => {
-                "Says edition, nodes and segments; or the refusal's number, its line and what to mend there.\n--json prints the answer for scripts.\n"
+                "Says edition, nodes and segments; or the refusal's number, its line and what to mend there.\nThe refused line of a network text stands below that, with a mark under what is wrong, and its fields where one is against the rules; levels, route and draw show it too.\n--json prints the answer for scripts.\n"
             }
             Command::Levels => {
                 "A row for each segment: street, ends, feet, ways, level 1 to 4, and the measure that decided it.\n--json prints the answer for scripts.\n"
