@@ -3,6 +3,7 @@
 
 mod common;
 
+use common::shown::Refused;
 use common::{GRID, Json, MEASURES, run, table};
 use oracle::Net;
 use towns::Town;
@@ -217,25 +218,64 @@ fn refusals_are_the_oracles() {
             tried += 1;
             let said = run(&["check", "-", "--json"], &damaged.text);
             let answer = Json::read(&said.out);
-            let refused = oracle::read(&damaged.text, usize::MAX).expect_err("a refusal");
+            let refused = Refused::of(&damaged.text).expect("a refusal");
             let told = (answer.get("refusal").number(), answer.get("line").number());
-            assert_eq!(
-                told,
-                (usize::from(refused.0), refused.1),
-                "{}",
-                damaged.what
-            );
+            let due = (usize::from(refused.refusal), refused.number);
+            assert_eq!(told, due, "{}", damaged.what);
             assert_eq!(said.status, Some(2));
             let words = answer.get("words").text();
             let plain = splicereel::Refusal::from_number(u32::from(number)).to_string();
             assert_ne!(words, plain, "{}", damaged.what);
-            assert!(
-                said.err
-                    .ends_with(&format!("line {}: {words}\n", refused.1)),
-                "{}",
-                said.err
-            );
+            let (first, below) = said.err.split_once('\n').expect("a line");
+            let end = format!("line {}: {words}", refused.number);
+            assert!(first.ends_with(&end), "{first}");
+            on_the_screen(&refused, below, &answer);
         }
     }
     assert!(tried > 400, "{tried}");
+}
+
+/// The refused line is shown as it must be, and scripts are told the same.
+fn on_the_screen(refused: &Refused<'_>, below: &str, answer: &Json) {
+    let bytes = |field: &Json| {
+        let start = field.get("start").number();
+        start..start + field.get("length").number()
+    };
+    let null = Json::Plain("null".into());
+    let part = refused.start..refused.start + refused.line.len();
+    assert_eq!(bytes(answer.get("part")), part, "{below}");
+    let mark = refused.mark(below).expect(below);
+    let told = Some(answer.get("mark")).filter(|mark| **mark != null);
+    assert_eq!(told.map(bytes), mark, "{below}");
+    let fields = answer.get("fields");
+    if refused.refusal != 4 {
+        assert_eq!(*fields, null);
+        return;
+    }
+    let mut digits = String::new();
+    for field in fields.list() {
+        let own = field.get("digits").text();
+        let number = usize::from_str_radix(own, 16).expect("digits");
+        assert_eq!(field.get("number").number(), number);
+        let row = below
+            .lines()
+            .find(|row| row.contains(field.get("field").text()));
+        assert!(row.expect(below).contains(own), "{below}");
+        digits += own;
+    }
+    assert_eq!(digits.as_bytes(), refused.line);
+}
+
+/// A refused table has no line of a text to show.
+#[test]
+fn tables_have_no_part() {
+    let town = towns::town::block_town();
+    let wrong = table(&town, None).replace("| 900 |", "| 52801 |");
+    let said = run(&["check", "-", "--json"], wrong.as_bytes());
+    assert_eq!((said.status, said.err.lines().count()), (Some(2), 1));
+    let answer = Json::read(&said.out);
+    assert_eq!(answer.get("refusal").number(), 4);
+    for field in ["part", "mark", "fields"] {
+        assert_eq!(answer.get(field).text(), "null");
+    }
 }

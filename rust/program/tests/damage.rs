@@ -1,6 +1,7 @@
 //! Damaged files: random bytes, cut and mixed texts and tables, up to 10 MB.
 //! Each gets exit status 0, 1 or 2 within a second, never a panic, and nothing
-//! is half printed.
+//! is half printed. A refused text's line is shown, the one that the oracle
+//! refuses, and no byte of it upsets a terminal.
 //!
 //! The variable FILES says how many (2,000 where it is not set), and SEED which;
 //! without it the clock chooses one. The seed is printed, and a file that fails
@@ -8,6 +9,7 @@
 
 mod common;
 
+use common::shown::Refused;
 use common::{GRID, Place, SEGMENTS, output, table};
 use std::fs;
 use std::path::PathBuf;
@@ -250,7 +252,6 @@ impl Trial {
     /// What is wrong with what the program said.
     fn wrong(&self, output: &Output) -> Option<&'static str> {
         let (out, err) = (&output.stdout, &output.stderr);
-        let lines = err.split_inclusive(|&byte| byte == b'\n').count();
         // An object or a graph, a picture, lines.
         let ends: [(&[u8], &[u8]); 3] =
             [(b"{", b"}\n"), (b"digraph", b"}\n"), (b"<svg", b"</svg>\n")];
@@ -263,19 +264,54 @@ impl Trial {
             _ if !whole => Some("an answer that ends in the middle"),
             Some(0 | 1) if !err.is_empty() => Some("an answer with an error"),
             Some(0 | 1) => None,
-            Some(2) if lines != 1 || !err.ends_with(b"\n") => Some("a fault that is not one line"),
             Some(2) if !out.is_empty() && !out.starts_with(b"{") => Some("a fault with an answer"),
-            Some(2) => None,
+            Some(2) => self.wrong_fault(err).err(),
             _ => Some("another status"),
         }
     }
+
+    /// One line says what is wrong; below it stands the refused line of a text,
+    /// and nothing else.
+    fn wrong_fault(&self, err: &[u8]) -> Result<(), &'static str> {
+        let err = str::from_utf8(err).map_err(|_| "a fault that is no text")?;
+        let (first, below) = err.split_once('\n').ok_or("a fault that is no line")?;
+        if !first.starts_with("splicereel: ") {
+            return Err("a fault that does not say whose it is");
+        }
+        let bare = |sign: char| sign.is_control() && sign != '\n';
+        if err.contains(bare) || !err.ends_with('\n') {
+            return Err("a control character, or a line that does not end");
+        }
+        if self.is_table() || !first.contains(": refused, number ") || !first.contains(", line ") {
+            let alone = below.is_empty().then_some(());
+            return alone.ok_or("a fault that is not one line");
+        }
+        let refused = Refused::of(&self.file).ok_or("a refusal where none is due")?;
+        let due = format!(
+            ": refused, number {}, line {}: ",
+            refused.refusal, refused.number
+        );
+        if !first.contains(&due) {
+            return Err("another refusal");
+        }
+        refused.mark(below).map(|_| ())
+    }
+
+    /// Whether the program takes the file for a table.
+    fn is_table(&self) -> bool {
+        let mut lines = self.file.split(|&byte| byte == b'\n');
+        self.words.iter().any(|word| word.ends_with(".md"))
+            || lines.any(|line| line.trim_ascii_start().starts_with(b"|"))
+    }
 }
 
-/// How many files of each kind there were, and how many got each status.
+/// How many files of each kind there were, how many got each status, and how
+/// many refused lines were shown.
 #[derive(Default)]
 struct Count {
     kinds: [usize; KINDS.len()],
     statuses: [usize; 3],
+    shown: usize,
 }
 
 /// A number from the environment.
@@ -284,7 +320,7 @@ fn variable(name: &str) -> Option<u64> {
 }
 
 #[test]
-fn damaged_files_get_an_answer_or_one_line() {
+fn damaged_files_get_an_answer_or_a_fault() {
     let files = variable("FILES").unwrap_or(2_000);
     let clock = || SystemTime::now().duration_since(SystemTime::UNIX_EPOCH);
     let seed = variable("SEED").unwrap_or_else(|| clock().map_or(1, |time| time.as_secs()));
@@ -300,13 +336,59 @@ fn damaged_files_get_an_answer_or_one_line() {
             scope.spawn(move || numbers.for_each(|number| attempt(seed, number, worker, count)));
         }
     });
-    let Count { kinds, statuses } = count.into_inner().expect("no panic");
+    let Count {
+        kinds,
+        statuses,
+        shown,
+    } = count.into_inner().expect("no panic");
     for ((name, _), count) in KINDS.iter().zip(kinds) {
         println!("damage: {count} of {name}");
         assert!(count > 0 || files < 1_000, "{name} never came");
     }
     println!("damage: {statuses:?} with status 0, 1 and 2");
     assert!(statuses.iter().all(|&count| count > 0) || files < 1_000);
+    println!("damage: {shown} refused lines shown");
+    assert!(shown as u64 > files / 10 || files < 1_000);
+}
+
+/// The longest lines: with each mark that one can have, early, in the middle and
+/// late.
+#[test]
+fn a_line_of_10_mb_is_shown() {
+    const LENGTH: usize = 10_000_000;
+    let digits = |start: &[u8], end: &[u8]| {
+        let zeros = vec![b'0'; LENGTH - start.len() - end.len()];
+        [start, &zeros, end].concat()
+    };
+    let mut wrong = digits(b"", b"\n");
+    wrong[LENGTH / 2] = b'g';
+    let files = [
+        (1, wrong),
+        (1, digits(b"\x1B[2J", b"\n")),
+        (1, digits(b"", b"\x07\n")),
+        (1, digits(b"", b"")),
+        (1, digits(b"0", b"\n")),
+        (2, digits(b"01", b"\n\n")),
+        (3, digits(b"01FF", b"\n\n")),
+        (3, digits(b"", b"\n\n")),
+    ];
+    for (number, file) in files {
+        assert_eq!(
+            Refused::of(&file).map(|refused| refused.refusal),
+            Some(number)
+        );
+        let trial = Trial {
+            kind: KINDS.len() - 1,
+            path: place("line"),
+            words: ["check".into(), place("line"), "--json".into()].into(),
+            file,
+        };
+        let output = trial.run().expect("an answer in time");
+        assert_eq!(
+            (output.status.code(), trial.wrong(&output)),
+            (Some(2), None)
+        );
+    }
 }
 
 fn place(name: &str) -> String {
@@ -316,12 +398,10 @@ fn place(name: &str) -> String {
 
 fn attempt(seed: u64, number: u64, worker: usize, count: &Mutex<Count>) {
     let trial = Trial::new(seed, number, worker);
-    let (status, wrong) = match trial.run() {
-        Ok(output) => (
-            output.status.code(),
-            trial.wrong(&output).map(str::to_string),
-        ),
-        Err(wrong) => (None, Some(wrong)),
+    let answer = trial.run();
+    let wrong = match &answer {
+        Ok(output) => trial.wrong(output).map(str::to_string),
+        Err(wrong) => Some(wrong.clone()),
     };
     if let Some(wrong) = wrong {
         let kept = place(&format!("fails-{seed}-{number}"));
@@ -333,7 +413,9 @@ fn attempt(seed: u64, number: u64, worker: usize, count: &Mutex<Count>) {
     }
     let mut count = count.lock().expect("no panic");
     count.kinds[trial.kind] += 1;
-    if let Some(status) = status {
-        count.statuses[status as usize] += 1;
+    if let Ok(output) = answer {
+        let lines = output.stderr.split(|&byte| byte == b'\n');
+        count.shown += usize::from(lines.count() > 2);
+        count.statuses[output.status.code().unwrap_or(2) as usize] += 1;
     }
 }

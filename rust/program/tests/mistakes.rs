@@ -1,5 +1,6 @@
 //! Each kind of mistake, in a table, in a text or in the call, gets one line on
-//! standard error that says what to mend, and status 2.
+//! standard error that says what to mend, and status 2. Below it stands the
+//! refused line of a text.
 
 mod common;
 
@@ -30,6 +31,11 @@ fn mixed(old: &str, new: &str) -> String {
 }
 
 fn says(words: &[&str], input: &[u8], due: &str) {
+    shows(words, input, due, &[]);
+}
+
+/// The same, with these lines below the one.
+fn shows(words: &[&str], input: &[u8], due: &str, below: &[&str]) {
     let said = run(words, input);
     assert_eq!(
         (said.status, said.out.as_str()),
@@ -37,8 +43,10 @@ fn says(words: &[&str], input: &[u8], due: &str) {
         "{}",
         said.err
     );
-    assert_eq!(said.err.lines().count(), 1, "{}", said.err);
-    assert_eq!(said.err, format!("splicereel: {due}\n"));
+    let first = format!("splicereel: {due}");
+    let due: Vec<&str> = [&[first.as_str()], below].concat();
+    assert_eq!(said.err.split_terminator('\n').collect::<Vec<_>>(), due);
+    assert!(said.err.ends_with('\n'));
 }
 
 fn table_says(table: &str, due: &str) {
@@ -319,88 +327,127 @@ fn files_in_another_encoding() {
     );
 }
 
-/// Network texts, and what is said of each.
-const TEXTS: [(&[u8], &str); 19] = [
-    (b"", "number 3, line 1: the file is empty: a head is due"),
-    (b"\n", "number 1, line 1: the line is empty: take it out"),
+/// Network texts, what is said of each, and the lines below that.
+const TEXTS: [(&[u8], &str, &[&str]); 21] = [
+    (
+        b"",
+        "number 3, line 1: the file is empty: a head is due",
+        &[],
+    ),
+    (
+        b"\n",
+        "number 1, line 1: the line is empty: take it out",
+        &["  1 | ", "    | ^"],
+    ),
     (
         b"\xEF\xBB\xBF010100010000FD\n",
         "number 1, line 1: a byte order mark (EF BB BF) stands before the first digit: save the file without one",
+        &["  1 | \u{FFFD}\u{FFFD}\u{FFFD}010100010000FD", "    | ^"],
     ),
     (
         b"\xFF\xFE0\x001\x00\n",
         "number 1, line 1: the file is in UTF-16: save it as plain text, a byte for each digit",
+        &["  1 | \u{FFFD}\u{FFFD}0\u{FFFD}1\u{FFFD}", "    | ^"],
     ),
     (
         b"010100010000FD\r\n",
         "number 1, line 1: a carriage return stands before the line feed: save the file with line feeds alone",
+        &["  1 | 010100010000FD\u{FFFD}", "    |               ^"],
     ),
     (
         b"010100010000FD",
         "number 1, line 1: the line feed after the last line is missing",
+        &["  1 | 010100010000FD", "    |               ^"],
     ),
     (
         b"010100010000F",
         "number 1, line 1: the file ends after 13 digits of this line: it was cut",
+        &["  1 | 010100010000F", "    |              ^"],
     ),
     (
         b"010100010000F\n",
         "number 1, line 1: the line has 13 digits: two make a byte, so one is missing or too many",
+        &["  1 | 010100010000F", "    |             ^"],
     ),
     (
         b"010100010000fd\n",
         "number 1, line 1: the small letter f at column 13 is no digit: digits are 0 to 9 and A to F",
+        &["  1 | 010100010000fd", "    |             ^"],
     ),
     (
         b"0101 0001\n",
         "number 1, line 1: a blank at column 5 is no digit: digits are 0 to 9 and A to F",
+        &["  1 | 0101 0001", "    |     ^"],
     ),
     (
         b"0101\x070001\n",
         "number 1, line 1: byte 07 at column 5 is no digit: digits are 0 to 9 and A to F",
+        &["  1 | 0101\u{FFFD}0001", "    |     ^"],
     ),
     (
         b"010100010000FC\n",
         "number 2, line 1: the check is FC, and the bytes before it need FD: one of the digits is wrong",
+        &["  1 | 010100010000FC", "    |             ^^"],
     ),
     (
         b"0202FC\n",
         "number 3, line 1: this is a segment, and the first line must be a head",
+        &["  1 | 0202FC", "    | ^^"],
     ),
     (
         b"0101FE\n",
         "number 3, line 1: the line has 3 bytes, and a head has 7: digits are missing",
+        &["  1 | 0101FE"],
     ),
     (
         b"010100010000FD\n010100010000FD\n",
         "number 3, line 2: this is a head, and only the first line is one",
+        &["  2 | 010100010000FD", "    | ^^"],
     ),
     (
         b"010900010000F5\n",
         "number 4, line 1: edition 09 is not known: 01 is",
+        &["  1 | 010900010000F5", "    |   ^^", "    |     Digits  Field     Number", "    |     01      kind           1", "    |  >  09      edition        9", "    |     0001    nodes          1", "    |     0000    segments       0", "    |     F5      check        245"],
     ),
     (
         b"010100000000FE\n",
         "number 4, line 1: 0 nodes: a town has 1 to 1000",
+        &["  1 | 010100000000FE", "    |     ^^^^", "    |     Digits  Field     Number", "    |     01      kind           1", "    |     01      edition        1", "    |  >  0000    nodes          0", "    |     0000    segments       0", "    |     FE      check        254"],
     ),
     (
         b"0101000103E911\n",
         "number 4, line 1: 1001 segments: a town has at most 1000",
+        &["  1 | 0101000103E911", "    |         ^^^^", "    |     Digits  Field     Number", "    |     01      kind           1", "    |     01      edition        1", "    |     0001    nodes          1", "    |  >  03E9    segments    1001", "    |     11      check         17"],
     ),
     (
         b"010100030003F8\n",
         "number 5, line 2: the text ends after 0 of the 3 segments that the head counts: lines are missing",
+        &[],
+    ),
+    (
+        b"01FF0000000000000000000000000000000000000000000000000000000000000000000000000000000000000000000000000000000000000000000000000000000000000000000000000000000000000000000000000000000000000000000000000000\n",
+        "number 3, line 1: the line has 100 bytes, and a head has 7: digits are too many",
+        &["  1 | 01FF000000000000000000000000000000000000000000000000000000000000000000000000000000000000000000000000..", "    |               ^^^^^^^^^^^^^^^^^^^^^^^^^^^^^^^^^^^^^^^^^^^^^^^^^^^^^^^^^^^^^^^^^^^^^^^^^^^^^^^^^^^^^^"],
+    ),
+    (
+        b"010100010000FD\n0200FE\n",
+        "number 3, line 2: the line has 3 bytes, and a segment has 30: digits are missing",
+        &["  2 | 0200FE"],
     ),
 ];
 
 #[test]
 fn texts_that_are_refused() {
-    for (text, due) in TEXTS {
-        says(
-            &["check", "-"],
-            text,
-            &format!("standard input: refused, {due}"),
-        );
+    for (text, due, below) in TEXTS {
+        let due = format!("standard input: refused, {due}");
+        for words in [
+            &["check", "-"][..],
+            &["levels", "-"],
+            &["route", "-", "0", "0", "1"],
+            &["draw", "-"],
+        ] {
+            shows(words, text, &due, below);
+        }
     }
 }
 

@@ -1,7 +1,9 @@
-//! What the tests of the program share: running it, reading its JSON, and
-//! writing a town as a table.
+//! What the tests of the program share: running it, reading its JSON, finding
+//! a refused line on the screen, and writing a town as a table.
 
 #![allow(dead_code)] // each test uses a part
+
+pub mod shown;
 
 use std::ffi::OsStr;
 use std::io::Write;
