@@ -1,9 +1,11 @@
 //! The pages that tests/splicereel stores say what the slow oracle says: which
-//! answer, its length and levels, each run, each corner and each segment.
+//! answer, its length and levels, each run, each corner and each segment; and
+//! which line of a text is refused.
 
 mod common;
 
 use common::MEASURES;
+use common::shown::Refused;
 use oracle::{Net, Ways};
 use std::fs;
 use std::path::{Path, PathBuf};
@@ -15,13 +17,17 @@ fn file(path: &str) -> PathBuf {
         .join(path)
 }
 
-/// The words of each stored call of a command, and the page.
-fn pages(command: &str) -> Vec<(Vec<String>, String)> {
+/// The words of each stored call, and where what it says is stored.
+fn calls() -> impl Iterator<Item = (Vec<String>, PathBuf)> {
     let entries = fs::read_dir(file("tests/splicereel")).expect("stored runs");
     let calls = entries.map(|entry| entry.expect("a file").path());
     let calls = calls.filter(|path| path.extension().is_some_and(|kind| kind == "args"));
-    let pages = calls.filter_map(|path| {
-        let words = words(&fs::read_to_string(&path).expect("words"));
+    calls.map(|path| (words(&fs::read_to_string(&path).expect("words")), path))
+}
+
+/// The words of each stored call of a command, and the page.
+fn pages(command: &str) -> Vec<(Vec<String>, String)> {
+    let pages = calls().filter_map(|(words, path)| {
         let page = fs::read_to_string(path.with_extension("out")).unwrap_or_default();
         let told = !page.is_empty() && words.iter().all(|word| !word.starts_with("--"));
         (told && words.first().is_some_and(|word| word == command)).then_some((words, page))
@@ -169,6 +175,26 @@ fn levels_are_the_oracles() {
     }
 }
 
+/// Where a call names a text that the oracle refuses, that line is shown.
+#[test]
+fn refused_lines_are_the_oracles() {
+    let mut seen = 0;
+    for (words, path) in calls() {
+        let mut named = words.iter().filter(|word| !word.ends_with(".md"));
+        let text = named.find_map(|word| fs::read(file(word)).ok());
+        let Some(refused) = text.as_deref().and_then(Refused::of) else {
+            continue;
+        };
+        let fault = fs::read_to_string(path.with_extension("err")).expect("a fault");
+        let (first, below) = fault.split_once('\n').expect("a line");
+        let due = format!("number {}, line {}: ", refused.refusal, refused.number);
+        assert!(first.contains(&due), "{fault}");
+        refused.mark(below).expect(&fault);
+        seen += 1;
+    }
+    assert!(seen >= 10, "{seen}");
+}
+
 /// docs/JSON.md names every field of the stored answers for scripts.
 #[test]
 fn fields_are_documented() {
@@ -179,6 +205,8 @@ fn fields_are_documented() {
         "json-found",
         "json-none",
         "json-refused",
+        "json-refused-1",
+        "json-refused-4",
     ] {
         let stored = file(&format!("tests/splicereel/{name}.out"));
         let answer = fs::read_to_string(stored).expect(name);
