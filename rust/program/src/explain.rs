@@ -146,18 +146,14 @@ fn not_digits(line: &Line<'_>) -> Option<Found> {
     if let Some(words) = encoding(line) {
         return at(0, words.into());
     }
-    if let Some(before) = digits.strip_suffix(b"\r").filter(|_| line.is_ended()) {
-        let words =
-            "a carriage return stands before the line feed: save the file with line feeds alone";
-        return at(before.len(), words.into());
-    }
     if digits.is_empty() {
         return at(0, "the line is empty: take it out".into());
     }
-    if let Some(column) = digits.iter().position(|&byte| !is_digit(byte)) {
-        return at(column, bad_digit(digits[column], column + 1));
-    }
     let count = digits.len();
+    if let Some(column) = digits.iter().position(|&byte| !is_digit(byte)) {
+        let last = line.is_ended() && column + 1 == count;
+        return at(column, bad_digit(digits[column], column + 1, last));
+    }
     if !line.is_ended() {
         return at(count, cut(count));
     }
@@ -183,8 +179,12 @@ fn is_digit(byte: u8) -> bool {
     matches!(byte, b'0'..=b'9' | b'A'..=b'F')
 }
 
-fn bad_digit(byte: u8, column: usize) -> String {
+/// `last` says that the line feed comes next.
+fn bad_digit(byte: u8, column: usize, last: bool) -> String {
     let what = match byte {
+        b'\r' if last => {
+            return "a carriage return stands before the line feed: save the file with line feeds alone".into();
+        }
         b'a'..=b'f' => format!("the small letter {}", char::from(byte)),
         b' ' => "a blank".into(),
         b'\t' => "a tab".into(),
@@ -377,7 +377,7 @@ mod tests {
             (b"02\xFF\xFE\n", 2),
             (b"0200FE \n", 6),
             (b"0200FE\r\n", 6),
-            (b"0 00FE\r\n", 6),
+            (b"0 00FE\r\n", 1),
             (b"0200F\n", 4),
             (b"0200F", 5),
             (b"0200FE", 6),

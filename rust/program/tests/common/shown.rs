@@ -79,12 +79,8 @@ impl<'t> Refused<'t> {
     fn wrong_digit(&self) -> Range<usize> {
         let (line, length) = (self.line, self.line.len());
         let ended = self.rest.len() > length;
-        let encodings: [&[u8]; 3] = [b"\xFF\xFE", b"\xFE\xFF", b"\xEF\xBB\xBF"];
-        let encoded = self.number == 1 && encodings.iter().any(|bytes| line.starts_with(bytes));
         let none = |byte: &u8| !b"0123456789ABCDEF".contains(byte);
         let place = match line.iter().position(none) {
-            // Of more than one wrong byte this is told: it ends every line.
-            Some(_) if ended && line.ends_with(b"\r") && !encoded => length - 1,
             Some(place) => place,
             None if ended => length.saturating_sub(1),
             None => length,
