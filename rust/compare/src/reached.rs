@@ -1,5 +1,6 @@
 //! What the comparisons reached, so that nothing is left out unseen.
 
+use crate::lines::{self, EDGES, LENGTHS};
 use crate::question::{Question, Seen};
 use std::collections::BTreeMap;
 use std::fmt;
@@ -25,6 +26,11 @@ impl Reached {
                 let position = position(bytes, number, told[0] as usize);
                 format!("read refused {number} at the {position} line")
             }
+            (Question::RefusedLine { .. }, 14) => "refused line: none, 14".into(),
+            (Question::RefusedLine { .. }, number) => {
+                let position = position(bytes, number, lines::line_of(bytes, seen.part()));
+                format!("refused line: {number} at the {position} line")
+            }
             (_, number @ 1..) => format!("{call} refused {number}"),
             (Question::Segment { .. }, _) => format!("segment level {}", told[0]),
             (Question::Movement { .. }, _) => format!("movement level {}", told[0]),
@@ -41,6 +47,11 @@ impl Reached {
             (Question::Search { .. }, _) if told[0] == 0 => "least none".into(),
             (Question::Search { .. }, _) => format!("least tolerance {} found", told[4]),
         });
+        if let (Question::RefusedLine { .. }, 5) = (question, seen.number)
+            && seen.part() == [bytes.len(), 0]
+        {
+            self.count("refused line: too few segments".into());
+        }
         if let (Question::Segment { .. }, 0) = (question, seen.number) {
             self.count(format!("segment measure {}", told[1]));
         }
@@ -72,6 +83,7 @@ impl fmt::Display for Reached {
 fn name(question: Question) -> &'static str {
     match question {
         Question::Read { .. } => "read",
+        Question::RefusedLine { .. } => "refused line",
         Question::Segment { .. } => "segment",
         Question::Movement { .. } => "movement",
         Question::Search {
@@ -118,12 +130,17 @@ pub const ROOMS: [&str; 10] = [
 /// Everything that a run of comparisons has to reach.
 fn must_reach() -> Vec<String> {
     let mut all: Vec<String> = vec!["read kept".into(), "least none".into()];
-    for number in 1..=6 {
-        for position in ["first", "middle", "last"] {
-            all.push(format!("read refused {number} at the {position} line"));
+    for call in ["read refused", "refused line:"] {
+        for number in 1..=6 {
+            for position in ["first", "middle", "last"] {
+                all.push(format!("{call} {number} at the {position} line"));
+            }
         }
+        all.push(format!("{call} 7 at the first line")); // it has no other
     }
-    all.push("read refused 7 at the first line".into()); // it has no other
+    all.extend(["none, 14", "too few segments"].map(|case| format!("refused line: {case}")));
+    all.extend(EDGES.map(|edge| format!("text: {edge}")));
+    all.extend(LENGTHS.map(|length| format!("output length: {length}")));
     for (call, numbers) in [
         ("segment", &[8, 12][..]),
         ("movement", &[8, 12, 13]),
