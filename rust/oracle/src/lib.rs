@@ -1,7 +1,7 @@
 //! Bicycle stress levels and least-stress routes once more, simple and slow.
 //!
-//! Written from "document 01" alone, it shares no code with any other
-//! implementation, and nothing here was made faster: bytes are parsed into
+//! Written from "document 01" and its Note 1 alone, it shares no code with any
+//! other implementation, and nothing here was made faster: bytes are parsed into
 //! plain fields, the levels are looked up in tables, every movement is listed
 //! in advance, and lengths are relaxed over that list until nothing changes.
 //! Its answers are what tests store, and what the others are held to.

@@ -30,10 +30,7 @@ pub fn read(text: &[u8], output: &mut [u8]) -> Result<usize, (u8, usize)> {
     // Decoded here first, for a refusal may still come.
     let mut kept = [[0; SEGMENT]; MAX_SEGMENTS];
     let kept = &mut kept[..head.segments];
-    segments(rest, head, kept.iter_mut(), |place, segment| {
-        *place = segment;
-    })
-    .map_err(|fault| (fault.number, fault.line))?;
+    segments(rest, head, kept).map_err(|fault| (fault.number, fault.line))?;
 
     let (first, others) = output[..size].split_at_mut(HEAD);
     first.copy_from_slice(&frame);
@@ -57,14 +54,15 @@ pub fn refused_line(text: &[u8], room: usize) -> (u8, Range<usize>) {
     (number, start..end.map_or(text.len(), |end| start + end))
 }
 
-/// Reads a text and keeps nothing.
+/// Reads a text as [`read`] does before it writes.
 fn judge(text: &[u8], room: usize) -> Result<(), Fault<'_>> {
     let (_, head, rest) = head_line(text, room).map_err(|number| Fault {
         number,
         line: 1,
         rest: text,
     })?;
-    segments(rest, head, 0..head.segments, |_, _| {})
+    let mut kept = [[0; SEGMENT]; MAX_SEGMENTS];
+    segments(rest, head, &mut kept[..head.segments])
 }
 
 /// Takes the first line as a head whose network has room: its frame, what it
@@ -82,14 +80,12 @@ fn head_line(text: &[u8], room: usize) -> Result<([u8; HEAD], Head, &[u8]), u8> 
     Ok((frame, head, rest))
 }
 
-/// Reads the lines after the head and keeps a segment at each place.
-#[inline]
-fn segments<P>(
-    mut rest: &[u8],
+/// Reads the lines after the head, a segment for each place.
+fn segments<'t>(
+    mut rest: &'t [u8],
     head: Head,
-    mut places: impl ExactSizeIterator<Item = P>,
-    keep: impl Fn(P, [u8; SEGMENT]),
-) -> Result<(), Fault<'_>> {
+    places: &mut [[u8; SEGMENT]],
+) -> Result<(), Fault<'t>> {
     let mut taken = [0u8; MAX_NODES];
     let mut claim = |end: End| {
         let legs = &mut taken[end.node];
@@ -98,6 +94,7 @@ fn segments<P>(
         *legs |= bit;
         free
     };
+    let mut places = places.iter_mut();
     let mut line = 2;
     while !rest.is_empty() {
         let fault = |number| Fault { number, line, rest };
@@ -110,19 +107,15 @@ fn segments<P>(
         if !(claim(fields.a()) && claim(fields.b())) {
             return Err(fault(6));
         }
-        keep(place, segment);
+        *place = segment;
         rest = after;
         line += 1;
     }
-    if places.len() == 0 {
-        Ok(())
-    } else {
-        Err(Fault {
-            number: 5,
-            line,
-            rest,
-        })
+    if places.len() > 0 {
+        let number = 5;
+        return Err(Fault { number, line, rest });
     }
+    Ok(())
 }
 
 /// Takes the first line as a frame of `L` bytes and the given kind.
