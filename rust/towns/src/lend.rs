@@ -46,14 +46,14 @@ pub struct Guarded<T> {
 
 /// Appends so many numbers of garbage, eight of each draw.
 fn litter<T: Garbage>(rng: &mut Rng, count: usize, numbers: &mut Vec<T>) {
-    let mut bits = 0;
-    numbers.extend((0..count).map(|place| {
-        bits = match place % 8 {
-            0 => rng.bits(),
-            _ => bits.rotate_right(8),
-        };
-        T::from_bits(bits)
-    }));
+    let length = numbers.len() + count;
+    numbers.reserve(count.next_multiple_of(8));
+    while numbers.len() < length {
+        let bits = rng.bits();
+        let eight = [0, 8, 16, 24, 32, 40, 48, 56];
+        numbers.extend(eight.map(|turn| T::from_bits(bits.rotate_right(turn))));
+    }
+    numbers.truncate(length);
 }
 
 impl<T: Garbage> Guarded<T> {
