@@ -115,7 +115,7 @@ pub fn edges(comparer: &mut Comparer<'_>, rng: &mut Rng, subject: &Subject) -> D
         if let Some(edgy) = edge_text(rng, &subject.town, edge) {
             comparer.reached.count(format!("text: {edge}"));
             let size = subject.bytes.len();
-            let room = rng.pick(&[size, size, size + 1, size - 1]);
+            let room = rng.pick(&[size, size + 1]);
             text(comparer, rng, &edgy, room)?;
         }
     }

@@ -26,11 +26,7 @@ impl Reached {
                 let position = position(bytes, number, told[0] as usize);
                 format!("read refused {number} at the {position} line")
             }
-            (Question::RefusedLine { .. }, 14) => "refused line: none, 14".into(),
-            (Question::RefusedLine { .. }, number) => {
-                let position = position(bytes, number, lines::line_of(bytes, seen.part()));
-                format!("refused line: {number} at the {position} line")
-            }
+            (Question::RefusedLine { .. }, _) => refused_line(bytes, seen),
             (_, number @ 1..) => format!("{call} refused {number}"),
             (Question::Segment { .. }, _) => format!("segment level {}", told[0]),
             (Question::Movement { .. }, _) => format!("movement level {}", told[0]),
@@ -47,11 +43,6 @@ impl Reached {
             (Question::Search { .. }, _) if told[0] == 0 => "least none".into(),
             (Question::Search { .. }, _) => format!("least tolerance {} found", told[4]),
         });
-        if let (Question::RefusedLine { .. }, 5) = (question, seen.number)
-            && seen.part() == [bytes.len(), 0]
-        {
-            self.count("refused line: too few segments".into());
-        }
         if let (Question::Segment { .. }, 0) = (question, seen.number) {
             self.count(format!("segment measure {}", told[1]));
         }
@@ -93,6 +84,18 @@ fn name(question: Question) -> &'static str {
     }
 }
 
+/// What a refused line was.
+fn refused_line(text: &[u8], seen: &Seen) -> String {
+    match (seen.number, seen.part()) {
+        (14, _) => "refused line: none, 14".into(),
+        (5, [start, _]) if start == text.len() => "refused line: too few segments".into(),
+        (number, part) => {
+            let position = position(text, number, lines::line_of(text, part));
+            format!("refused line: {number} at the {position} line")
+        }
+    }
+}
+
 /// The first line that a refusal of Read can name.
 fn first_line(number: u32) -> usize {
     match number {
@@ -127,9 +130,9 @@ pub const ROOMS: [&str; 10] = [
     "short previous",
 ];
 
-/// Everything that a run of comparisons has to reach.
-fn must_reach() -> Vec<String> {
-    let mut all: Vec<String> = vec!["read kept".into(), "least none".into()];
+/// Everything that questions about texts have to reach.
+fn must_reach_in_texts() -> Vec<String> {
+    let mut all: Vec<String> = vec!["read kept".into()];
     for call in ["read refused", "refused line:"] {
         for number in 1..=6 {
             for position in ["first", "middle", "last"] {
@@ -141,6 +144,13 @@ fn must_reach() -> Vec<String> {
     all.extend(["none, 14", "too few segments"].map(|case| format!("refused line: {case}")));
     all.extend(EDGES.map(|edge| format!("text: {edge}")));
     all.extend(LENGTHS.map(|length| format!("output length: {length}")));
+    all
+}
+
+/// Everything that a run of comparisons has to reach.
+fn must_reach() -> Vec<String> {
+    let mut all = must_reach_in_texts();
+    all.push("least none".into());
     for (call, numbers) in [
         ("segment", &[8, 12][..]),
         ("movement", &[8, 12, 13]),
