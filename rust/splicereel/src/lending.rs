@@ -195,3 +195,25 @@ pub fn least_stress(
         Some(found) => Ok(Some((found, Level::told(told[4])?))),
     }
 }
+
+#[cfg(test)]
+mod tests {
+    use super::part_of;
+
+    /// Whatever were told, a part lies in its text.
+    #[test]
+    fn parts_lie_in_the_text() {
+        let text = b"head\nline";
+        for (told, part) in [
+            ([5, 4], &text[5..]),
+            ([0, 4], &text[..4]),
+            ([9, 0], &text[9..]),
+            ([5, usize::MAX], &text[5..]),
+            ([10, 0], &text[9..]),
+            ([usize::MAX; 2], &text[9..]),
+        ] {
+            let given = part_of(text, told);
+            assert_eq!((given, given.as_ptr()), (part, part.as_ptr()));
+        }
+    }
+}
