@@ -101,16 +101,24 @@ stack: $(LIB)
 	$(CC) -std=gnu11 -O2 -Wall -Wextra -Werror -Iinclude rust/bench/stack.c $(LIB) -o target/examples/stack
 	target/examples/stack tests/routes/thousand-grid.in
 
-# Both programs are asked about Block town, within tolerance 3 and within 4, and must print the same; a damaged text gets the refusal's words.
+# Those named short are asked about Block town, within tolerance 3 and within 4, and must print the same; a damaged text gets the refusal's words. Those
+# named refused show the refused line of that text and find Block town in order.
 examples: $(LIB)
 	mkdir -p target/examples
-	$(CC) $(CFLAGS) -Iinclude examples/short.c $(LIB) -o target/examples/short-c
-	$(CARGO) build $(RUST) --package splicereel --example short
-	cp rust/target/release/examples/short target/examples/short-rust
+	$(CARGO) build $(RUST) --package splicereel --examples
+	for program in short refused; do \
+	  $(CC) $(CFLAGS) -Iinclude examples/$$program.c $(LIB) -o target/examples/$$program-c || exit 1; \
+	  cp rust/target/release/examples/$$program target/examples/$$program-rust || exit 1; \
+	done
 	for program in short-c short-rust; do \
 	  for tolerance in 3 4; do target/examples/$$program towns/block-town.txt 0 2 $$tolerance; done \
 	    | diff examples/short.out - || exit 1; \
 	  target/examples/$$program tests/levels/refusal-2-middle-0.in 0 1 2 2>&1 > /dev/null \
 	    | grep -qx '\(Error: \)\?line 7: the check of a frame is wrong' || exit 1; \
+	  echo "$$program prints what it must"; \
+	done
+	for program in refused-c refused-rust; do \
+	  for text in tests/levels/refusal-2-middle-0.in towns/block-town.txt; do target/examples/$$program $$text; echo "exit status $$?"; done \
+	    | diff examples/refused.out - || exit 1; \
 	  echo "$$program prints what it must"; \
 	done

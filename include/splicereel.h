@@ -7,24 +7,26 @@
  *
  * Every call, on every input that keeps the rules below, ends with an answer
  * or a refusal. It returns 0 where it answers and the refusal's number
- * otherwise; what else it has to tell stands in `told`. The calls keep no
- * pointer, allocate nothing and have no state of their own: they may run in
- * many threads at once. A call about a town (at most SPLICEREEL_TOWN_NODES
- * nodes and SPLICEREEL_TOWN_SEGMENTS segments) takes less than 64 KiB of stack,
- * and one about a larger network less than 448 KiB; every network of edition 01
- * is a town.
+ * otherwise; what else it has to tell stands in `told`. Refused line alone is
+ * asked for a refusal: it returns a number other than 0 on every input, and
+ * tells the line in `part`. The calls keep no pointer, allocate nothing and
+ * have no state of their own: they may run in many threads at once. A call
+ * about a town (at most SPLICEREEL_TOWN_NODES nodes and
+ * SPLICEREEL_TOWN_SEGMENTS segments) takes less than 64 KiB of stack, and one
+ * about a larger network less than 448 KiB; every network of edition 01 is a
+ * town.
  *
  * Rules for what is lent, the only ones:
  *
  * - A pointer is not null, also where its length is 0; it then may point
  *   anywhere, aligned.
  * - A pointer to 16-bit numbers is aligned for them, and so is one to 32-bit
- *   numbers. Bytes lie anywhere.
+ *   numbers and one to size_t. Bytes lie anywhere.
  * - A length counts elements, not bytes, and that many are there.
- * - What a call may write (output, best, previous, buffer, told) shares no
- *   element with anything else that is lent to the same call. `text` and
+ * - What a call may write (output, best, previous, buffer, told, part) shares
+ *   no element with anything else that is lent to the same call. `text` and
  *   `net` are only read.
- * - `told` has 8 elements.
+ * - `told` has 8 elements, `part` has 2.
  *
  * What is lent may hold anything beforehand: nothing need be cleared.
  *
@@ -67,10 +69,13 @@ enum {
     SPLICEREEL_TOWN_RUNS = 2 * SPLICEREEL_TOWN_SEGMENTS,
 
     /* Elements of `told`. */
-    SPLICEREEL_TOLD = 8
+    SPLICEREEL_TOLD = 8,
+    /* Elements of `part`. */
+    SPLICEREEL_PART = 2
 };
 
-/* What a call returns. */
+/* What a call returns. Where Read would refuse, Refused line returns Read's
+   number. */
 enum splicereel_number {
     /* The call answers. */
     SPLICEREEL_ANSWERED = 0,
@@ -95,8 +100,8 @@ enum splicereel_number {
        line 2 is looked at. */
     SPLICEREEL_OUTPUT_TOO_SHORT = 7,
 
-    /* Every other call, and before anything else: the bytes are no network
-       that Read could keep. */
+    /* Every call about a kept network, and before anything else: the bytes are
+       no network that Read could keep. */
     SPLICEREEL_NOT_A_NETWORK = 8,
     /* Route, Least stress: a node is not below the number of nodes. */
     SPLICEREEL_NO_SUCH_NODE = 9,
@@ -110,7 +115,9 @@ enum splicereel_number {
        exist or is not open. */
     SPLICEREEL_NO_SUCH_RUN = 12,
     /* Judge a movement: no movement joins the two runs. */
-    SPLICEREEL_NO_MOVEMENT = 13
+    SPLICEREEL_NO_MOVEMENT = 13,
+    /* Refused line: Read would accept the text. */
+    SPLICEREEL_NO_REFUSED_LINE = 14
 };
 
 /* The text of what a call returned, in English, without a full stop. */
@@ -145,6 +152,8 @@ static inline const char *splicereel_refusal_text(uint32_t number)
         return "there is no such segment or run, or the run is not open";
     case SPLICEREEL_NO_MOVEMENT:
         return "no movement joins the two runs";
+    case SPLICEREEL_NO_REFUSED_LINE:
+        return "Read would accept the text: no line is refused";
     default:
         return "a number that no call returns";
     }
@@ -173,6 +182,14 @@ enum splicereel_told {
     SPLICEREEL_ROUTE_TOLERANCE = 4
 };
 
+/* Where in `part` Refused line tells what. */
+enum splicereel_part {
+    /* Where the part begins: the bytes of the text before it. */
+    SPLICEREEL_PART_START = 0,
+    /* Its bytes. */
+    SPLICEREEL_PART_LENGTH = 1
+};
+
 /* What governs a segment's level. */
 enum splicereel_measure {
     SPLICEREEL_LANES = 1,
@@ -197,6 +214,29 @@ uint32_t splicereel_read(
     const uint8_t *text, size_t text_length,
     uint8_t *output, size_t output_length,
     uint32_t told[8]);
+
+/*
+ * Refused line: the part of a text that holds the line at which Read refuses
+ * it, for an output of output_length bytes. That is a number alone: no output
+ * is lent. SPLICEREEL_MAX_NETWORK asks whether the text is in order at all.
+ *
+ * Returns 1 to 7, as Read: the part is the bytes of Read's line before its 0A,
+ * or to the text's end where it has none; a 0D stays in it. With 7 that is the
+ * head line; where segments are missing (5) and for an empty text (3) it is the
+ * empty part at the text's end.
+ * Returns 14 where Read accepts the text: the part is the empty one at the
+ * text's end.
+ * part[0] is where the part begins, part[1] its bytes, and their sum is at most
+ * text_length; both are always written, and nothing else is. They are size_t,
+ * for a broken line may be longer than 32 bits tell.
+ *
+ * Only the first faulty line is told: a text with that line mended or cut out
+ * may be refused at another.
+ */
+uint32_t splicereel_refused_line(
+    const uint8_t *text, size_t text_length,
+    size_t output_length,
+    size_t part[2]);
 
 /*
  * Judge a segment of a kept network.

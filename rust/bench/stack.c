@@ -20,11 +20,12 @@ enum {
 static uint8_t stack[STACK], text[TEXT], net[SPLICEREEL_MAX_NETWORK];
 static uint32_t best[SPLICEREEL_MAX_RUNS], previous[SPLICEREEL_MAX_RUNS], told[SPLICEREEL_TOLD];
 static uint16_t buffer[SPLICEREEL_MAX_RUNS];
-static size_t text_length, net_length, nodes, segments;
+static size_t text_length, net_length, nodes, segments, part[SPLICEREEL_PART];
 static ucontext_t here, there;
 
 static void nothing(void) {}
 static void read(void) { splicereel_read(text, text_length, net, sizeof net, told); }
+static void refused_line(void) { splicereel_refused_line(text, text_length, sizeof net, part); }
 static void judge_segment(void) { splicereel_judge_segment(net, net_length, 0, told); }
 static void judge_movement(void) { splicereel_judge_movement(net, net_length, 0, 0, told); }
 static void route(void) {
@@ -70,6 +71,7 @@ int main(int count, char **arguments) {
            segments);
     size_t frame = used_by(nothing);
     printf("Read %zu\n", used_by(read) - frame);
+    printf("Refused line %zu\n", used_by(refused_line) - frame);
     printf("Judge a segment %zu\n", used_by(judge_segment) - frame);
     printf("Judge a movement %zu\n", used_by(judge_movement) - frame);
     printf("Route %zu\n", used_by(route) - frame);

@@ -6,10 +6,11 @@
 pub mod clock;
 
 use oracle::Net;
-use splicereel::ffi::{self, Lent, Told};
+use splicereel::ffi::{self, Lent, Part, Told};
 use std::hint::black_box;
 use towns::Town;
 use towns::draw::Rng;
+use towns::town::text_of;
 
 /// Which implementation is called.
 #[derive(Clone, Copy, Debug, PartialEq, Eq)]
@@ -38,6 +39,12 @@ impl Side {
 pub enum Call {
     /// Read the town's text.
     Read,
+    /// Read the same text with a wrong check in its last line.
+    ReadLast,
+    /// The refused line of the town's text, which has none.
+    Refused,
+    /// The refused line where the last line's check is wrong.
+    RefusedLast,
     /// Judge one segment; the test of the kept bytes is part of it.
     Segment,
     /// Judge one movement; the test of the kept bytes is part of it.
@@ -50,8 +57,11 @@ pub enum Call {
 
 impl Call {
     /// Every call, Route at each tolerance.
-    pub const ALL: [Call; 8] = [
+    pub const ALL: [Call; 11] = [
         Call::Read,
+        Call::ReadLast,
+        Call::Refused,
+        Call::RefusedLast,
         Call::Segment,
         Call::Movement,
         Call::Route(1),
@@ -65,6 +75,9 @@ impl Call {
     pub fn name(self) -> &'static str {
         match self {
             Call::Read => "read",
+            Call::ReadLast => "read-last",
+            Call::Refused => "refused",
+            Call::RefusedLast => "refused-last",
             Call::Segment => "segment",
             Call::Movement => "movement",
             Call::Route(1) => "route1",
@@ -79,6 +92,9 @@ impl Call {
     pub fn title(self) -> String {
         match self {
             Call::Read => "Read".into(),
+            Call::ReadLast => "Read, refused at the last line".into(),
+            Call::Refused => "Refused line, none".into(),
+            Call::RefusedLast => "Refused line, the last".into(),
             Call::Segment => "Judge a segment".into(),
             Call::Movement => "Judge a movement".into(),
             Call::Route(tolerance) => format!("Route, tolerance {tolerance}"),
@@ -95,6 +111,8 @@ pub const QUESTIONS: usize = 128;
 /// Nothing is cleared between calls: each finds what the one before left.
 pub struct Subject {
     text: Vec<u8>,
+    /// The text with a wrong check in its last line.
+    damaged: Vec<u8>,
     net: Vec<u8>,
     segments: Vec<usize>,
     movements: Vec<(usize, usize)>,
@@ -113,6 +131,7 @@ impl Subject {
         let (segments, nodes) = (town.segments.len(), usize::from(town.nodes));
         Subject {
             text: town.text(),
+            damaged: damaged(town),
             pairs: (0..QUESTIONS)
                 .map(|_| (rng.below(nodes), rng.below(nodes)))
                 .collect(),
@@ -127,7 +146,8 @@ impl Subject {
     }
 
     /// Makes a call with one of the questions; gives the refusal's number or
-    /// 0, and whether there was something to tell: for a search, a route.
+    /// 0, and whether there was something to tell: for a search, a route; for a
+    /// refused line, its bytes.
     #[inline]
     pub fn ask(&mut self, side: Side, call: Call, question: usize) -> (u32, bool) {
         let question = question % QUESTIONS;
@@ -140,6 +160,7 @@ impl Subject {
     fn archive(&mut self, call: Call, question: usize) -> (u32, bool) {
         let mut told = Told::default();
         let net = black_box(&self.net[..]);
+        let text = text_for(call, &self.text, &self.damaged);
         let (from, to) = self.pairs[question];
         let lent = Lent {
             best: &mut self.best,
@@ -148,7 +169,12 @@ impl Subject {
             place: 0,
         };
         let number = match call {
-            Call::Read => ffi::read(black_box(&self.text), &mut self.output, &mut told),
+            Call::Read | Call::ReadLast => ffi::read(text, &mut self.output, &mut told),
+            Call::Refused | Call::RefusedLast => {
+                let mut part = Part::default();
+                let number = ffi::refused_line(text, net.len(), &mut part);
+                return (number, part[1] != 0);
+            }
             Call::Segment => ffi::judge_segment(net, self.segments[question], &mut told),
             Call::Movement => {
                 let (first, second) = self.movements[question];
@@ -159,17 +185,22 @@ impl Subject {
             }
             Call::Least => ffi::least_stress(net, from, to, lent, &mut told),
         };
-        (number, told[0] != 0)
+        (number, number == 0 && told[0] != 0)
     }
 
     fn twin(&mut self, call: Call, question: usize) -> (u32, bool) {
         let net = black_box(&self.net[..]);
+        let text = text_for(call, &self.text, &self.damaged);
         let (from, to) = self.pairs[question];
         let (best, previous, buffer) = (&mut self.best, &mut self.previous, &mut self.buffer);
         let answer = match call {
-            Call::Read => twin::read(black_box(&self.text), &mut self.output)
+            Call::Read | Call::ReadLast => twin::read(text, &mut self.output)
                 .map(|written| written > 0)
                 .map_err(|(number, _)| number),
+            Call::Refused | Call::RefusedLast => {
+                let (number, part) = twin::refused_line(text, net.len());
+                return (u32::from(number), !part.is_empty());
+            }
             Call::Segment => twin::judge_segment(net, self.segments[question]).map(|_| true),
             Call::Movement => {
                 let (first, second) = self.movements[question];
@@ -187,6 +218,23 @@ impl Subject {
             Err(number) => (u32::from(number), false),
         }
     }
+}
+
+/// The text of a town with a wrong check in its last line.
+pub fn damaged(town: &Town) -> Vec<u8> {
+    let mut frames = town.frames();
+    if let Some(check) = frames.last_mut().and_then(|frame| frame.last_mut()) {
+        *check = check.wrapping_add(1);
+    }
+    text_of(&frames)
+}
+
+/// Which of the two texts a call takes.
+fn text_for<'t>(call: Call, good: &'t [u8], damaged: &'t [u8]) -> &'t [u8] {
+    black_box(match call {
+        Call::ReadLast | Call::RefusedLast => damaged,
+        _ => good,
+    })
 }
 
 /// Movements of a network, or pairs of runs where it has none.
@@ -216,11 +264,17 @@ mod tests {
         for segments in [30, 125] {
             let mut subject = Subject::new(&mixed_grid(11, segments), 11);
             for call in Call::ALL {
+                let meant = match call {
+                    Call::ReadLast => (2, false),
+                    Call::Refused => (14, false),
+                    Call::RefusedLast => (2, true),
+                    _ => (0, true),
+                };
                 let mut found = 0;
                 for question in 0..QUESTIONS {
                     let archive = subject.ask(Side::Archive, call, question);
                     assert_eq!(archive, subject.ask(Side::Twin, call, question), "{call:?}");
-                    found += usize::from(archive == (0, true));
+                    found += usize::from(archive == meant);
                 }
                 assert!(found > 0, "{call:?} never found anything");
             }

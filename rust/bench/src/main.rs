@@ -1,6 +1,8 @@
 //! `bench` times every call on the archive and on the twin and prints
 //! Markdown tables.
 
+mod texts;
+
 use bench::clock::microseconds;
 use bench::{Call, QUESTIONS, Side, Subject};
 use std::fs;
@@ -205,7 +207,8 @@ fn main() {
          taken by turns, a sample at least {} ms of calls over {} towns with {QUESTIONS} questions each; the ratio is the median of those \
          of two samples taken one after the other. Release builds with link-time optimization, {}, {}. \
          Nothing is cleared before a call: scratch and buffer hold what the call before left. \
-         Judge a segment and Judge a movement include the test of the kept bytes.\n",
+         Judge a segment and Judge a movement include the test of the kept bytes. \
+         Read that is refused and Refused line that tells the last take the same text, with a wrong check in its last line.\n",
         SAMPLE / 1e3,
         SEEDS.end - SEEDS.start,
         env!("BENCH_RUSTC"),
@@ -219,4 +222,6 @@ fn main() {
     by_size();
     println!("Other shapes, at {MOST_SEGMENTS} segments or as many as they have.\n");
     by_shape();
+    println!("\nRefused line beside Read, the archive alone, on the same text.\n");
+    texts::table();
 }

@@ -28,6 +28,7 @@ pub fn agree(
     }
     holds(archive.bytes.untouched(), "the text or network was written")?;
     holds(archive.told.guards_hold(), "a guard of told was written")?;
+    same_part(archive, twin)?;
     match question {
         Question::Read { .. } => read(archive, twin),
         Question::Search { .. } if archive.number == 0 => search(question, town, archive, twin),
@@ -37,6 +38,17 @@ pub fn agree(
             same_told(archive, &twin.told())
         }
     }
+}
+
+/// The part of the text must be the twin's; where none is told it is the
+/// garbage that both sides started from.
+fn same_part(archive: &Seen, twin: &Seen) -> Result<(), Complaint> {
+    holds(archive.part.guards_hold(), "a guard of part was written")?;
+    let (part, must) = (archive.part(), twin.part());
+    if part == must {
+        return Ok(());
+    }
+    Err(format!("part {part:?}, must be {must:?}"))
 }
 
 /// The eight numbers told must be these; those that a call does not name are

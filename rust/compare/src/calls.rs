@@ -1,12 +1,15 @@
 //! The calls as C sees them, on either side.
 
-use splicereel::ffi::{self, Lent, Told};
+use splicereel::ffi::{self, Lent, Part, Told};
 
-/// An implementation of the five calls: each returns 0 or a refusal's number
-/// and writes what else it tells into `told`.
+/// An implementation of the six calls: each returns 0 or a refusal's number
+/// and writes what else it tells into `told`, or for a refused line into
+/// `part`.
 pub trait Calls {
     /// Read.
     fn read(&self, text: &[u8], output: &mut [u8], told: &mut Told) -> u32;
+    /// Refused line.
+    fn refused_line(&self, text: &[u8], output_length: usize, part: &mut Part) -> u32;
     /// Judge a segment.
     fn judge_segment(&self, net: &[u8], segment: usize, told: &mut Told) -> u32;
     /// Judge a movement.
@@ -29,6 +32,10 @@ pub struct Archive;
 impl Calls for Archive {
     fn read(&self, text: &[u8], output: &mut [u8], told: &mut Told) -> u32 {
         ffi::read(text, output, told)
+    }
+
+    fn refused_line(&self, text: &[u8], output_length: usize, part: &mut Part) -> u32 {
+        ffi::refused_line(text, output_length, part)
     }
 
     fn judge_segment(&self, net: &[u8], segment: usize, told: &mut Told) -> u32 {
@@ -77,6 +84,12 @@ impl Calls for Twin {
         };
         told[0] = first as u32; // neither is near 2 to the 32nd here
         number
+    }
+
+    fn refused_line(&self, text: &[u8], output_length: usize, part: &mut Part) -> u32 {
+        let (number, range) = twin::refused_line(text, output_length);
+        *part = [range.start, range.len()];
+        number.into()
     }
 
     fn judge_segment(&self, net: &[u8], segment: usize, told: &mut Told) -> u32 {

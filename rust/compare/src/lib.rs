@@ -16,6 +16,7 @@
 
 mod agree;
 pub mod calls;
+mod lines;
 pub mod question;
 mod reached;
 mod rounds;
@@ -24,7 +25,6 @@ use calls::{Calls, Twin};
 use oracle::Net;
 use question::{Question, Seen, ask};
 pub use reached::Reached;
-use splicereel::ffi::Told;
 use std::fmt;
 use towns::draw::Rng;
 
@@ -102,15 +102,15 @@ impl<'c> Comparer<'c> {
         rounds::play(self, &mut rng)
     }
 
-    /// One comparison; gives what was returned and told. `town` is the network
-    /// that `bytes` are, where they are one.
+    /// One comparison; gives what the archive did. `town` is the network that
+    /// `bytes` are, where they are one.
     fn compare(
         &mut self,
         rng: &mut Rng,
         town: Option<&Net>,
         bytes: &[u8],
         question: Question,
-    ) -> Result<(u32, Told), Box<Mismatch>> {
+    ) -> Result<Seen, Box<Mismatch>> {
         let garbage = rng.bits();
         let archive = ask(self.archive, bytes, question, garbage);
         let twin = ask(&Twin, bytes, question, garbage);
@@ -120,7 +120,7 @@ impl<'c> Comparer<'c> {
         }
         self.made += 1;
         self.reached.answer(bytes, question, &archive);
-        Ok((archive.number, archive.told()))
+        Ok(archive)
     }
 
     fn mismatch(
@@ -145,7 +145,8 @@ impl<'c> Comparer<'c> {
         })
     }
 
-    /// A mismatch between the answers to several questions about one pair.
+    /// A mismatch between the answers to several questions about one pair or
+    /// one text.
     fn disagreement(&self, bytes: &[u8], question: String, complaint: &str) -> Box<Mismatch> {
         Box::new(Mismatch {
             seed: self.seed,

@@ -1,5 +1,6 @@
 //! What the comparisons reached, so that nothing is left out unseen.
 
+use crate::lines::{self, EDGES, LENGTHS};
 use crate::question::{Question, Seen};
 use std::collections::BTreeMap;
 use std::fmt;
@@ -25,6 +26,7 @@ impl Reached {
                 let position = position(bytes, number, told[0] as usize);
                 format!("read refused {number} at the {position} line")
             }
+            (Question::RefusedLine { .. }, _) => refused_line(bytes, seen),
             (_, number @ 1..) => format!("{call} refused {number}"),
             (Question::Segment { .. }, _) => format!("segment level {}", told[0]),
             (Question::Movement { .. }, _) => format!("movement level {}", told[0]),
@@ -72,12 +74,25 @@ impl fmt::Display for Reached {
 fn name(question: Question) -> &'static str {
     match question {
         Question::Read { .. } => "read",
+        Question::RefusedLine { .. } => "refused line",
         Question::Segment { .. } => "segment",
         Question::Movement { .. } => "movement",
         Question::Search {
             tolerance: Some(_), ..
         } => "route",
         Question::Search { .. } => "least",
+    }
+}
+
+/// What a refused line was.
+fn refused_line(text: &[u8], seen: &Seen) -> String {
+    match (seen.number, seen.part()) {
+        (14, _) => "refused line: none, 14".into(),
+        (5, [start, _]) if start == text.len() => "refused line: too few segments".into(),
+        (number, part) => {
+            let position = position(text, number, lines::line_of(text, part));
+            format!("refused line: {number} at the {position} line")
+        }
     }
 }
 
@@ -115,15 +130,27 @@ pub const ROOMS: [&str; 10] = [
     "short previous",
 ];
 
+/// Everything that questions about texts have to reach.
+fn must_reach_in_texts() -> Vec<String> {
+    let mut all: Vec<String> = vec!["read kept".into()];
+    for call in ["read refused", "refused line:"] {
+        for number in 1..=6 {
+            for position in ["first", "middle", "last"] {
+                all.push(format!("{call} {number} at the {position} line"));
+            }
+        }
+        all.push(format!("{call} 7 at the first line")); // it has no other
+    }
+    all.extend(["none, 14", "too few segments"].map(|case| format!("refused line: {case}")));
+    all.extend(EDGES.map(|edge| format!("text: {edge}")));
+    all.extend(LENGTHS.map(|length| format!("output length: {length}")));
+    all
+}
+
 /// Everything that a run of comparisons has to reach.
 fn must_reach() -> Vec<String> {
-    let mut all: Vec<String> = vec!["read kept".into(), "least none".into()];
-    for number in 1..=6 {
-        for position in ["first", "middle", "last"] {
-            all.push(format!("read refused {number} at the {position} line"));
-        }
-    }
-    all.push("read refused 7 at the first line".into()); // it has no other
+    let mut all = must_reach_in_texts();
+    all.push("least none".into());
     for (call, numbers) in [
         ("segment", &[8, 12][..]),
         ("movement", &[8, 12, 13]),

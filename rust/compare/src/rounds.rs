@@ -3,7 +3,7 @@
 
 use crate::question::Question;
 use crate::reached::ROOMS;
-use crate::{Comparer, Mismatch};
+use crate::{Comparer, Mismatch, lines};
 use oracle::Net;
 use splicereel::ffi::Told;
 use splicereel::{MAX_NETWORK, TOWN_SEGMENTS};
@@ -11,12 +11,12 @@ use towns::draw::{self, Rng, Shape, Spot, damage, damage_kept};
 use towns::lend::Lengths;
 use towns::town::{Town, text_of};
 
-type Done = Result<(), Box<Mismatch>>;
+pub type Done = Result<(), Box<Mismatch>>;
 
 /// A town, its kept bytes, and what the slow implementation makes of them.
-struct Subject {
-    town: Town,
-    bytes: Vec<u8>,
+pub struct Subject {
+    pub town: Town,
+    pub bytes: Vec<u8>,
     net: Option<Net>,
 }
 
@@ -51,6 +51,7 @@ pub fn play(comparer: &mut Comparer<'_>, rng: &mut Rng) -> Done {
     };
     texts(comparer, rng, &subject)?;
     noise(comparer, rng, &subject)?;
+    lines::edges(comparer, rng, &subject)?;
     segments_judged(comparer, rng, &subject)?;
     movements_judged(comparer, rng, &subject)?;
     pairs(comparer, rng, &subject)?;
@@ -62,14 +63,20 @@ pub fn play(comparer: &mut Comparer<'_>, rng: &mut Rng) -> Done {
 /// line, a middle one and the last.
 fn texts(comparer: &mut Comparer<'_>, rng: &mut Rng, subject: &Subject) -> Done {
     let (text, size) = (subject.town.text(), subject.bytes.len());
-    for room in [size, size + rng.range(1, 70), size - 1, rng.below(size), 0] {
-        comparer.compare(rng, None, &text, Question::Read { room })?;
+    for (room, kind) in [
+        (size, "exact"),
+        (size + rng.range(1, 70), "longer"),
+        (size - 1, "one short"),
+        (rng.below(size), "shorter"),
+        (0, "0"),
+    ] {
+        comparer.reached.count(format!("output length: {kind}"));
+        lines::text(comparer, rng, &text, room)?;
     }
     for number in 1..=7 {
         for spot in Spot::ALL {
             if let Some(damaged) = damage(rng, &subject.town, number, spot) {
-                let room = damaged.output;
-                comparer.compare(rng, None, &damaged.text, Question::Read { room })?;
+                lines::text(comparer, rng, &damaged.text, damaged.output)?;
             }
         }
     }
@@ -85,12 +92,12 @@ fn noise(comparer: &mut Comparer<'_>, rng: &mut Rng, subject: &Subject) -> Done 
             draw::change(rng, &mut text);
         }
         let room = rng.pick(&[subject.bytes.len(), MAX_NETWORK, 67, 7]);
-        comparer.compare(rng, None, &text, Question::Read { room })?;
+        lines::text(comparer, rng, &text, room)?;
     }
     for _ in 0..6 {
         let (text, kept) = changed_field(rng, &subject.town);
         let room = subject.bytes.len() + 30;
-        comparer.compare(rng, None, &text, Question::Read { room })?;
+        lines::text(comparer, rng, &text, room)?;
         let segment = rng.below(4);
         let town = Net::parse(&kept);
         comparer.compare(rng, town.as_ref(), &kept, Question::Segment { segment })?;
@@ -99,7 +106,7 @@ fn noise(comparer: &mut Comparer<'_>, rng: &mut Rng, subject: &Subject) -> Done 
         let length = rng.below(150);
         let text: Vec<u8> = (0..length).map(|_| rng.pick(digits)).collect();
         let room = rng.below(100);
-        comparer.compare(rng, None, &text, Question::Read { room })?;
+        lines::text(comparer, rng, &text, room)?;
     }
     Ok(())
 }
@@ -218,7 +225,7 @@ fn pairs(comparer: &mut Comparer<'_>, rng: &mut Rng, subject: &Subject) -> Done 
                 lengths,
             };
             let answer = comparer.compare(rng, subject.net.as_ref(), &subject.bytes, question)?;
-            answers.push(answer.1);
+            answers.push(answer.told());
         }
         if let Err(complaint) = consistent(&answers) {
             let question = format!("from {from} to {to}, tolerances 1 to 4 and least: {answers:?}");

@@ -3,9 +3,9 @@
 
 use compare::Comparer;
 use compare::calls::{Archive, Calls, Twin};
-use splicereel::ffi::{Lent, Told};
+use splicereel::ffi::{Lent, Part, Told};
 
-/// Rounds of about 140 comparisons each; a mismatch tells how to replay it.
+/// Rounds of about 230 comparisons each; a mismatch tells how to replay it.
 const ROUNDS: u64 = 1_500;
 
 #[test]
@@ -30,6 +30,16 @@ enum Fault {
     ByteKept,
     OutputPastTheEnd,
     OutputOnRefusal,
+    PartWithIts0A,
+    LineAfter,
+    AcceptsWrongCount,
+    HeadForTooFew,
+    EmptyPartAtTheStart,
+    EmptyLineAtTheEnd,
+    ReturnLeftOut,
+    PartLengthNotWritten,
+    LengthOneLonger,
+    NarrowLength,
     ToldBeyond,
     ToldOnRefusal,
     ToldOnNone,
@@ -51,11 +61,21 @@ enum Fault {
     RoomBeforeTolerance,
 }
 
-const FAULTS: [Fault; 23] = [
+const FAULTS: [Fault; 33] = [
     Fault::Line,
     Fault::ByteKept,
     Fault::OutputPastTheEnd,
     Fault::OutputOnRefusal,
+    Fault::PartWithIts0A,
+    Fault::LineAfter,
+    Fault::AcceptsWrongCount,
+    Fault::HeadForTooFew,
+    Fault::EmptyPartAtTheStart,
+    Fault::EmptyLineAtTheEnd,
+    Fault::ReturnLeftOut,
+    Fault::PartLengthNotWritten,
+    Fault::LengthOneLonger,
+    Fault::NarrowLength,
     Fault::ToldBeyond,
     Fault::ToldOnRefusal,
     Fault::ToldOnNone,
@@ -101,6 +121,13 @@ fn spoil<T: Copy + std::ops::Not<Output = T>>(numbers: &mut [T], at: usize) {
     }
 }
 
+/// Start and length of the line that begins at a place of a text.
+fn line_at(text: &[u8], start: usize) -> Part {
+    let rest = &text[start..];
+    let length = rest.iter().position(|&byte| byte == b'\n');
+    [start, length.unwrap_or(rest.len())]
+}
+
 impl Calls for Faulty {
     fn read(&self, text: &[u8], output: &mut [u8], told: &mut Told) -> u32 {
         let number = Twin.read(text, output, told);
@@ -110,6 +137,32 @@ impl Calls for Faulty {
             (Fault::OutputPastTheEnd, 0) => spoil(output, told[0] as usize),
             (Fault::OutputOnRefusal, 1..) => spoil(output, 0),
             (Fault::ToldBeyond, 0) => spoil(told, 1),
+            _ => {}
+        }
+        number
+    }
+
+    fn refused_line(&self, text: &[u8], output_length: usize, part: &mut Part) -> u32 {
+        let asked = match self.0 {
+            Fault::LengthOneLonger => output_length.saturating_add(1),
+            _ => self.narrow(Fault::NarrowLength, output_length),
+        };
+        let garbage = part[1];
+        let number = Twin.refused_line(text, asked, part);
+        let [start, length] = *part;
+        let (end, last) = (start + length, text.len());
+        match self.0 {
+            Fault::PartWithIts0A if end < last => part[1] += 1,
+            Fault::LineAfter if end < last => *part = line_at(text, end + 1),
+            Fault::AcceptsWrongCount if number == 5 => {
+                *part = [last, 0];
+                return 14;
+            }
+            Fault::HeadForTooFew if number == 5 && start == last => *part = line_at(text, 0),
+            Fault::EmptyPartAtTheStart if start == last => part[0] = 0,
+            Fault::EmptyLineAtTheEnd if length == 0 => part[0] = last,
+            Fault::ReturnLeftOut if text[start..end].ends_with(b"\r") => part[1] -= 1,
+            Fault::PartLengthNotWritten => part[1] = garbage,
             _ => {}
         }
         number

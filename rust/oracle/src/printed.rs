@@ -1,10 +1,10 @@
 //! What programs must print.
 
 use crate::frame::MOST_NODES;
-use crate::{Net, Ways, read};
+use crate::{Net, Ways, read, refused_line};
 
-/// At most so many bytes of standard input are judged by `levels` and by
-/// `examples_routes`.
+/// At most so many bytes of standard input are judged by `levels`, by
+/// `examples_refused` and by `examples_routes`.
 pub const MOST_INPUT: usize = 65_536;
 
 /// What program `levels` prints for this standard input.
@@ -16,6 +16,20 @@ pub fn levels(input: &[u8]) -> String {
             .map(|(s, (level, measure))| format!("{s} {level} {measure}\n"))
             .collect(),
     }
+}
+
+/// What program `examples_refused` prints for this standard input: number,
+/// start and length of the refused line, then the line itself, for an output of
+/// 0 bytes, of one segment's network, and of the greatest length.
+pub fn refused(input: &[u8]) -> Vec<u8> {
+    let text = judged(input);
+    let mut out = Vec::new();
+    for room in [0, 37, usize::MAX] {
+        let (number, part) = refused_line(text, room);
+        let told = format!("{number} {} {}\n", part.start, part.len());
+        out.extend([told.as_bytes(), &text[part], b"\n"].concat());
+    }
+    out
 }
 
 /// What program `examples_routes` prints for this standard input.

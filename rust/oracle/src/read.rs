@@ -1,7 +1,9 @@
-//! Read: a network text, line by line, into kept bytes.
+//! Read: a network text, line by line, into kept bytes; and the line that it
+//! refuses.
 
 use crate::frame::{HEAD, SEGMENT, counts, sum_is_zero};
 use crate::street::Street;
+use std::ops::Range;
 
 /// The bytes kept, or number and line of the refusal.
 ///
@@ -36,6 +38,26 @@ pub fn read(text: &[u8], room: usize) -> Result<Vec<u8>, (u8, usize)> {
         return Err((5, last + 1));
     }
     Ok(kept)
+}
+
+/// The refusal's number, and where in the text the line lies that is refused,
+/// without its 0A; or 14 and the text's end, where nothing is refused.
+///
+/// `room` is the length of the output that would be lent.
+pub fn refused_line(text: &[u8], room: usize) -> (u8, Range<usize>) {
+    let (number, line) = match read(text, room) {
+        Err(refused) => refused,
+        Ok(_) => return (14, text.len()..text.len()),
+    };
+    // One piece more than there are 0As: what follows the last of them is the
+    // line after the last, empty, or a line without its 0A.
+    let mut pieces = text.split(|&b| b == b'\n');
+    let mut start = 0;
+    for before in pieces.by_ref().take(line - 1) {
+        start += before.len() + 1;
+    }
+    let length = pieces.next().map_or(0, <[u8]>::len);
+    (number, start..start + length)
 }
 
 /// The frame of a line, of this kind and size; or 1, 2 or 3.

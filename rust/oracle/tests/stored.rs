@@ -1,6 +1,6 @@
 //! Every output that is stored is the oracle's, byte by byte.
 
-use oracle::{levels, route, routes};
+use oracle::{levels, refused, route, routes};
 use std::fs;
 use std::path::{Path, PathBuf};
 
@@ -12,20 +12,20 @@ fn stored(path: &str) -> PathBuf {
 }
 
 /// Holds a stored output to the answer to its stored input.
-fn hold(input: &Path, output: &Path, answer: fn(&[u8]) -> String) {
+fn hold<A: AsRef<[u8]>>(input: &Path, output: &Path, answer: fn(&[u8]) -> A) {
     let read = |path: &Path| fs::read(path).unwrap_or_else(|_| panic!("{}", path.display()));
-    let same = answer(&read(input)).into_bytes() == read(output);
+    let same = answer(&read(input)).as_ref() == read(output);
     assert!(same, "{}", output.display());
 }
 
-/// Holds every output of a folder; an input without one fails too.
-fn hold_all(folder: &str, answer: fn(&[u8]) -> String) {
+/// Holds every output of a folder that ends so; an input without one fails too.
+fn hold_all<A: AsRef<[u8]>>(folder: &str, end: &str, answer: fn(&[u8]) -> A) {
     let entries = fs::read_dir(stored(folder)).expect(folder);
     let files: Vec<PathBuf> = entries.map(|entry| entry.expect(folder).path()).collect();
     assert!(!files.is_empty(), "{folder} has no files");
     for file in files {
         if file.extension().is_some_and(|kind| kind == "in") {
-            hold(&file, &file.with_extension("out"), answer);
+            hold(&file, &file.with_extension(end), answer);
         } else {
             assert!(file.with_extension("in").exists(), "{}", file.display());
         }
@@ -34,14 +34,32 @@ fn hold_all(folder: &str, answer: fn(&[u8]) -> String) {
 
 #[test]
 fn levels_are_the_oracles() {
-    hold_all("tests/levels", levels);
+    hold_all("tests/levels", "out", levels);
     let program = stored("crates/levels");
     hold(&program.join("stdin"), &program.join("stdout"), levels);
 }
 
 #[test]
+fn refused_lines_are_the_oracles() {
+    hold_all("tests/levels", "refused", refused);
+}
+
+/// By hand: a line with bytes that are no letters, and a text in order.
+#[test]
+fn refused_lines_are_printed() {
+    let text = b"010100020001FB\n02\xFF\r\n";
+    assert_eq!(
+        refused(text),
+        b"7 0 14\n010100020001FB\n1 15 4\n02\xFF\r\n1 15 4\n02\xFF\r\n"
+    );
+    let text = fs::read(stored("towns/block-town.txt")).expect("a text");
+    let (head, end) = ("7 0 14\n010100030003F8\n", "14 198 0\n\n");
+    assert_eq!(refused(&text), [head, head, end].concat().as_bytes());
+}
+
+#[test]
 fn routes_are_the_oracles() {
-    hold_all("tests/routes", routes);
+    hold_all("tests/routes", "out", routes);
     let program = stored("crates/examples_routes");
     hold(&program.join("stdin"), &program.join("stdout"), routes);
 }

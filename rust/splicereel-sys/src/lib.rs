@@ -6,15 +6,15 @@
 //!
 //! Each returns 0 where the call answers and the refusal's number otherwise.
 //! What else it has to tell stands in `told`; entries that a call does not
-//! name stay as they were.
+//! name stay as they were. Refused line never returns 0, and tells in `part`.
 //!
 //! # Safety
 //!
 //! The functions have no precondition beyond C's own:
 //!
 //! - a pointer is not null, is aligned, and has the elements that its length
-//!   says (`told` has [`TOLD`]), for reading, and for writing too where it is
-//!   not const;
+//!   says (`told` has [`TOLD`], `part` has [`PART`]), for reading, and for
+//!   writing too where it is not const;
 //! - nothing else touches them during the call;
 //! - no slice that is written overlaps another.
 //!
@@ -25,6 +25,8 @@
 
 /// The elements of `told`.
 pub const TOLD: usize = 8;
+/// The elements of `part`.
+pub const PART: usize = 2;
 
 unsafe extern "C" {
     /// Read: a network text into kept bytes.
@@ -34,6 +36,15 @@ unsafe extern "C" {
         output: *mut u8,
         output_length: usize,
         told: *mut u32,
+    ) -> u32;
+
+    /// Refused line: the part of a text that holds the line at which Read
+    /// refuses it.
+    pub fn splicereel_refused_line(
+        text: *const u8,
+        text_length: usize,
+        output_length: usize,
+        part: *mut usize,
     ) -> u32;
 
     /// Judge a segment of a kept network.

@@ -1,15 +1,19 @@
 //! The archive's calls as C sees them: a number comes back, and what else a
-//! call has to tell stands in eight 32-bit numbers.
+//! call has to tell stands in eight 32-bit numbers, or for [`refused_line`] in
+//! two of the machine's size.
 //!
 //! Each function returns 0 where the call answers and the refusal's number
-//! otherwise. Numbers of [`Told`] that a call does not name stay as they
-//! were. This is the only module with unsafe code; what it gives is safe to
-//! use with any arguments.
+//! otherwise; [`refused_line`] returns a refusal's number always. Numbers of
+//! [`Told`] that a call does not name stay as they were. This is the only
+//! module with unsafe code; what it gives is safe to use with any arguments.
 
 #![allow(unsafe_code)]
 
 /// What a call tells besides its number.
 pub type Told = [u32; splicereel_sys::TOLD];
+
+/// Where a part of a text begins, and its bytes.
+pub type Part = [usize; splicereel_sys::PART];
 
 /// What a search needs to borrow.
 ///
@@ -44,6 +48,21 @@ pub fn read(text: &[u8], output: &mut [u8], told: &mut Told) -> u32 {
             output.as_mut_ptr(),
             output.len(),
             told.as_mut_ptr(),
+        )
+    }
+}
+
+/// Refused line, for an output of so many bytes. 1 to 7 as Read, or 14 where
+/// Read accepts: the part begins at `part[0]` and has `part[1]` bytes.
+#[inline]
+pub fn refused_line(text: &[u8], output_length: usize, part: &mut Part) -> u32 {
+    // SAFETY: pointers and lengths of live slices; see above.
+    unsafe {
+        splicereel_sys::splicereel_refused_line(
+            text.as_ptr(),
+            text.len(),
+            output_length,
+            part.as_mut_ptr(),
         )
     }
 }

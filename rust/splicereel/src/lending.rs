@@ -1,8 +1,8 @@
 //! The calls over the caller's own slices; nothing is allocated.
 
 use crate::answer::{Found, Judged, Level, Measure};
-use crate::ffi::{self, Lent, Told};
-use crate::refusal::{ReadRefusal, Refusal};
+use crate::ffi::{self, Lent, Part, Told};
+use crate::refusal::{ReadRefusal, Refusal, RefusedLine};
 
 /// Reads a network text into `output` and gives the number of bytes written;
 /// later bytes stay. A refusal leaves `output` as it was.
@@ -27,6 +27,46 @@ pub fn read(text: &[u8], output: &mut [u8]) -> Result<usize, ReadRefusal> {
             line: told[0],
         }),
     }
+}
+
+/// The line of a text at which [`read`] refuses it, given an output of so many
+/// bytes, and the refusal; [`Refusal::NoRefusedLine`] where [`read`] accepts.
+///
+/// [`MAX_NETWORK`](crate::MAX_NETWORK) asks whether the text is in order at
+/// all. Only the first faulty line is told: a text with that line mended or cut
+/// out may be refused at another.
+///
+/// ```
+/// use splicereel::{refused_line, Refusal, MAX_NETWORK};
+///
+/// let text = b"010100010000FD\n02 and so on\r\n";
+/// let refused = refused_line(text, MAX_NETWORK);
+/// assert_eq!(refused.refusal, Refusal::NotDigits);
+/// assert_eq!(refused.part, b"02 and so on\r");
+///
+/// // An output of 6 bytes is too short for the head's network: the head line.
+/// let refused = refused_line(text, 6);
+/// assert_eq!(refused.refusal, Refusal::OutputTooShort);
+/// assert_eq!(refused.part, b"010100010000FD");
+///
+/// let refused = refused_line(&text[..15], MAX_NETWORK);
+/// assert_eq!(refused.refusal, Refusal::NoRefusedLine);
+/// assert_eq!(refused.part, b"");
+/// ```
+pub fn refused_line(text: &[u8], output_length: usize) -> RefusedLine<'_> {
+    let mut part = Part::default();
+    let number = ffi::refused_line(text, output_length, &mut part);
+    RefusedLine {
+        refusal: Refusal::from_number(number),
+        part: part_of(text, part),
+    }
+}
+
+/// A part of a text, as far as the text reaches.
+fn part_of(text: &[u8], [start, length]: Part) -> &[u8] {
+    let (_, rest) = text.split_at(start.min(text.len()));
+    let (part, _) = rest.split_at(length.min(rest.len()));
+    part
 }
 
 /// Nothing where the call answered.
@@ -153,5 +193,27 @@ pub fn least_stress(
     match found(&told)? {
         None => Ok(None),
         Some(found) => Ok(Some((found, Level::told(told[4])?))),
+    }
+}
+
+#[cfg(test)]
+mod tests {
+    use super::part_of;
+
+    /// Whatever were told, a part lies in its text.
+    #[test]
+    fn parts_lie_in_the_text() {
+        let text = b"head\nline";
+        for (told, part) in [
+            ([5, 4], &text[5..]),
+            ([0, 4], &text[..4]),
+            ([9, 0], &text[9..]),
+            ([5, usize::MAX], &text[5..]),
+            ([10, 0], &text[9..]),
+            ([usize::MAX; 2], &text[9..]),
+        ] {
+            let given = part_of(text, told);
+            assert_eq!((given, given.as_ptr()), (part, part.as_ptr()));
+        }
     }
 }

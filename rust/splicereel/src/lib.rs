@@ -6,8 +6,8 @@
 //! - The comfortable one owns what it needs: [`Network::read`] and the methods
 //!   of [`Network`].
 //! - The lending one takes the caller's slices and allocates nothing:
-//!   [`read`], [`judge_segment`], [`judge_movement`], [`route`] and
-//!   [`least_stress`], with [`Lent`] for what a search borrows.
+//!   [`read`], [`refused_line`], [`judge_segment`], [`judge_movement`],
+//!   [`route`] and [`least_stress`], with [`Lent`] for what a search borrows.
 //!
 //! Every call ends with an answer or a [`Refusal`] on every input; none
 //! panics, and a refusal leaves every lent slice as it was. The crate needs
@@ -50,9 +50,9 @@ mod refusal;
 
 pub use answer::{Direction, Found, Judged, Level, Measure, Run};
 pub use ffi::Lent;
-pub use lending::{judge_movement, judge_segment, least_stress, read, route};
+pub use lending::{judge_movement, judge_segment, least_stress, read, refused_line, route};
 pub use network::{Network, Route};
-pub use refusal::{ReadRefusal, Refusal};
+pub use refusal::{ReadRefusal, Refusal, RefusedLine};
 
 /// The most nodes of every network that [`read`] can keep; today that is the
 /// largest of edition 01.

@@ -4,7 +4,7 @@ use crate::MAX_NETWORK;
 use crate::answer::{Found, Judged, Level, Run};
 use crate::ffi::Lent;
 use crate::lending;
-use crate::refusal::{ReadRefusal, Refusal};
+use crate::refusal::{ReadRefusal, Refusal, RefusedLine};
 use alloc::vec;
 use alloc::vec::Vec;
 
@@ -43,6 +43,25 @@ impl Network {
         bytes.truncate(written);
         bytes.shrink_to_fit();
         Ok(Network { bytes })
+    }
+
+    /// The line of a text at which [`Network::read`] refuses it, and why; none
+    /// exactly where that accepts the text.
+    ///
+    /// Only the first faulty line is told: a text with that line mended or cut
+    /// out may be refused at another.
+    ///
+    /// ```
+    /// use splicereel::{Network, Refusal};
+    /// let text = b"010100010000FD\n00\nand more\n";
+    /// let refused = Network::refused_line(text).expect("a refusal");
+    /// assert_eq!((refused.refusal, refused.part), (Refusal::WrongFrame, &b"00"[..]));
+    ///
+    /// assert_eq!(Network::refused_line(b"010100010000FD\n"), None);
+    /// ```
+    pub fn refused_line(text: &[u8]) -> Option<RefusedLine<'_>> {
+        let refused = lending::refused_line(text, MAX_NETWORK);
+        (refused.refusal != Refusal::NoRefusedLine).then_some(refused)
     }
 
     /// Takes bytes that were kept earlier, if Read could have kept them;

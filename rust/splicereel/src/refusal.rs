@@ -48,13 +48,15 @@ pub enum Refusal {
     NoSuchRun,
     /// 13: no movement joins the two runs.
     NoMovement,
+    /// 14: Read would accept the text, so that no line is refused.
+    NoRefusedLine,
     /// A number that this crate does not know, as an archive of another
     /// edition could return; or an answer out of the known range.
     Unknown(u32),
 }
 
 /// Every refusal that has a number of its own, in their order.
-const KNOWN: [Refusal; 13] = [
+const KNOWN: [Refusal; 14] = [
     Refusal::NotDigits,
     Refusal::WrongCheck,
     Refusal::WrongFrame,
@@ -68,6 +70,7 @@ const KNOWN: [Refusal; 13] = [
     Refusal::NoRoom,
     Refusal::NoSuchRun,
     Refusal::NoMovement,
+    Refusal::NoRefusedLine,
 ];
 
 impl Refusal {
@@ -115,6 +118,7 @@ impl fmt::Display for Refusal {
             Refusal::NoRoom => "scratch or route buffer have not two numbers for each segment",
             Refusal::NoSuchRun => "there is no such segment or run, or the run is not open",
             Refusal::NoMovement => "no movement joins the two runs",
+            Refusal::NoRefusedLine => "Read would accept the text: no line is refused",
             Refusal::Unknown(number) => {
                 return write!(out, "number {number}, which this crate does not know");
             }
@@ -167,3 +171,29 @@ impl fmt::Debug for ReadRefusal {
 // Its words hold the refusal's own: naming that as the source would print them
 // twice.
 impl Error for ReadRefusal {}
+
+/// Why Read refuses a text, and the part of the text that holds the refused
+/// line.
+///
+/// The part is a slice of the text itself, without the line's 0A; a line that
+/// has none reaches to the text's end, and a 0D stays. Also an empty part keeps
+/// its place: for an empty line where that stands; for missing segments and for
+/// an empty text at the text's end, and so where no line is refused. Where the
+/// output is too short it is the head line.
+///
+/// ```
+/// use splicereel::{refused_line, Refusal, MAX_NETWORK};
+///
+/// let text = b"010100020001FB\n\n00\n";
+/// let refused = refused_line(text, MAX_NETWORK);
+/// assert_eq!((refused.refusal, refused.part), (Refusal::NotDigits, &b""[..]));
+/// // The empty line after the head.
+/// assert_eq!(refused.part.as_ptr(), text[15..].as_ptr());
+/// ```
+#[derive(Clone, Copy, Debug, PartialEq, Eq, Hash)]
+pub struct RefusedLine<'t> {
+    /// What is wrong.
+    pub refusal: Refusal,
+    /// The first faulty line.
+    pub part: &'t [u8],
+}

@@ -2,14 +2,15 @@
 //! forms alike on random towns.
 
 use splicereel::{
-    Direction, Found, Lent, Level, MAX_NETWORK, Network, ReadRefusal, Refusal, Run, TOWN_RUNS,
-    TOWN_SEGMENTS, judge_movement, judge_segment, least_stress, read, route,
+    Direction, Found, Lent, Level, MAX_NETWORK, Network, ReadRefusal, Refusal, RefusedLine, Run,
+    TOWN_RUNS, TOWN_SEGMENTS, judge_movement, judge_segment, least_stress, read, refused_line,
+    route,
 };
 use std::collections::HashSet;
 use std::error::Error;
 use towns::draw::{self, Rng, Shape, Spot, damage};
 use towns::lend::{Lengths, Lent as Room};
-use towns::town::block_town;
+use towns::town::{Town, block_town};
 
 /// Block town, its middle loop open one way only.
 fn one_way_loop() -> Network {
@@ -58,10 +59,71 @@ fn each_refusal_of_read_has_its_name() {
                 damaged.what
             );
             assert!(output.iter().all(|&byte| byte == 9));
+            let told = refused_line(&damaged.text, damaged.output);
+            let mut lines = damaged.text.split(|&byte| byte == b'\n');
+            let part = lines.nth(damaged.refusal.1 - 1).expect("a line");
+            assert_eq!(told, RefusedLine { refusal, part }, "{}", damaged.what);
+            assert_eq!(told.part.as_ptr(), part.as_ptr(), "{}", damaged.what);
             if number != 7 {
                 assert_eq!(Network::read(&damaged.text).map(|_| 0), refused);
+                assert_eq!(Network::refused_line(&damaged.text), Some(told));
             }
         }
+    }
+}
+
+/// Holds the refused line of a text, for an output of so many bytes, to a
+/// refusal, a place and a number of bytes; by the addresses, also where the
+/// part is empty.
+fn hold_line(text: &[u8], room: usize, refusal: Refusal, start: usize, length: usize) {
+    let told = refused_line(text, room);
+    let place = told.part.as_ptr() as usize - text.as_ptr() as usize;
+    let words = String::from_utf8_lossy(text);
+    assert_eq!(told.refusal, refusal, "{words:?}");
+    assert_eq!((place, told.part.len()), (start, length), "{words:?}");
+    assert_eq!(told.part, &text[start..start + length]);
+    if room >= MAX_NETWORK {
+        let owned = Network::refused_line(text);
+        let refused = Network::read(text).is_err();
+        assert_eq!(owned, refused.then_some(told), "{words:?}");
+        let same = |owned: RefusedLine<'_>| owned.part.as_ptr() == told.part.as_ptr();
+        assert!(owned.is_none_or(same), "{words:?}");
+    }
+}
+
+#[test]
+fn refused_lines_lie_in_the_text() {
+    use Refusal::{NoRefusedLine, NotDigits, OutputTooShort, WrongCount, WrongFrame};
+    let head = Town::new(1).text();
+    let block = block_town().text();
+    let and = |more: &[u8]| [&head[..], more].concat();
+    let all = MAX_NETWORK;
+    hold_line(b"", all, WrongFrame, 0, 0);
+    hold_line(b"", 0, WrongFrame, 0, 0);
+    hold_line(b"\n", all, NotDigits, 0, 0);
+    hold_line(b"\n\n", all, NotDigits, 0, 0);
+    hold_line(b"0", all, NotDigits, 0, 1);
+    // S 0.
+    hold_line(&head, all, NoRefusedLine, 15, 0);
+    hold_line(&head, 7, NoRefusedLine, 15, 0);
+    hold_line(&head, 6, OutputTooShort, 0, 14);
+    hold_line(&head[..14], all, NotDigits, 0, 14);
+    hold_line(&and(b"\n"), all, NotDigits, 15, 0);
+    hold_line(&and(b"\n"), 6, OutputTooShort, 0, 14);
+    hold_line(&and(b"00"), all, NotDigits, 15, 2);
+    hold_line(&and(&block[15..]), all, WrongCount, 15, 60);
+    // Carriage returns.
+    hold_line(&and(b"00\r\n00"), all, NotDigits, 15, 3);
+    hold_line(b"010100010000FD\r\n", all, NotDigits, 0, 15);
+    // Three lines after the head; too few, cut, and parted by an empty one.
+    hold_line(&block, 96, OutputTooShort, 0, 14);
+    for room in [97, all, 1 << 32, usize::MAX] {
+        hold_line(&block, room, NoRefusedLine, 198, 0);
+        hold_line(&block[..15], room, WrongCount, 15, 0);
+        hold_line(&block[..137], room, WrongCount, 137, 0);
+        hold_line(&block[..197], room, NotDigits, 137, 60);
+        let parted = [&block[..76], b"\n", &block[76..]].concat();
+        hold_line(&parted, room, NotDigits, 76, 0);
     }
 }
 
@@ -120,13 +182,13 @@ fn each_refusal_of_the_searches_has_its_name() {
 #[test]
 fn refusals_have_numbers_and_words() {
     let mut words = HashSet::new();
-    for number in 1..=13 {
+    for number in 1..=14 {
         let refusal = Refusal::from_number(number);
         assert_eq!(refusal.number(), number);
         assert_ne!(refusal, Refusal::Unknown(number));
         assert!(words.insert(refusal.to_string()), "{refusal} comes twice");
     }
-    for number in [0, 14, u32::MAX] {
+    for number in [0, 15, u32::MAX] {
         assert_eq!(Refusal::from_number(number), Refusal::Unknown(number));
         assert_eq!(Refusal::Unknown(number).number(), number);
     }
@@ -147,7 +209,8 @@ fn calls_fit_a_small_stack() {
     let calls = move || {
         let mut output = vec![0; MAX_NETWORK];
         let mut room = Room::exact(TOWN_RUNS);
-        let read = read(&text, &mut output).is_ok();
+        let read = read(&text, &mut output).is_ok()
+            && refused_line(&text, MAX_NETWORK).refusal == Refusal::NoRefusedLine;
         let judged =
             judge_segment(&net, TOWN_SEGMENTS - 1).is_ok() && judge_movement(&net, 0, 0).is_err();
         let routed = route(&net, 0, last, 4, lent(&mut room)).is_ok();
@@ -173,6 +236,7 @@ fn forms_are_alike() {
         let mut output = vec![0; MAX_NETWORK];
         let written = read(&town.text(), &mut output).expect("a network");
         assert_eq!(&output[..written], network.as_bytes());
+        assert_eq!(Network::refused_line(&town.text()), None);
         assert_eq!(network.nodes(), usize::from(town.nodes));
         assert_eq!(network.segments(), town.segments.len());
         assert_eq!(Network::from_bytes(town.bytes()).as_ref(), Ok(&network));

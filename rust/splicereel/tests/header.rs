@@ -1,6 +1,7 @@
-//! The crate's sizes are those of the C header, and the twin's.
+//! The crate's sizes are those of the C header, and the twin's; a part of a
+//! text is told where the header says.
 
-use splicereel::ffi::Told;
+use splicereel::ffi::{Part, Told, refused_line};
 use splicereel::{MAX_NETWORK, MAX_NODES, MAX_RUNS, MAX_SEGMENTS};
 use splicereel::{TOWN_NODES, TOWN_RUNS, TOWN_SEGMENTS};
 
@@ -27,9 +28,19 @@ fn sizes_are_the_headers() {
         ("SPLICEREEL_TOWN_SEGMENTS", TOWN_SEGMENTS),
         ("SPLICEREEL_TOWN_RUNS", TOWN_RUNS),
         ("SPLICEREEL_TOLD", Told::default().len()),
+        ("SPLICEREEL_PART", Part::default().len()),
     ] {
         assert_eq!(value(name), size, "{name}");
     }
+}
+
+#[test]
+fn a_part_is_told_where_the_header_says() {
+    let mut part = Part::default();
+    let number = refused_line(b"010100010000FD\n00\n", MAX_NETWORK, &mut part);
+    assert_eq!(number, 3);
+    assert_eq!(part[value("SPLICEREEL_PART_START")], 15);
+    assert_eq!(part[value("SPLICEREEL_PART_LENGTH")], 2);
 }
 
 #[test]

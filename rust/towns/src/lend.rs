@@ -28,6 +28,12 @@ impl Garbage for u32 {
     }
 }
 
+impl Garbage for usize {
+    fn from_bits(bits: u64) -> usize {
+        bits as usize
+    }
+}
+
 /// Numbers to lend, with guard numbers before and after them, and a copy of
 /// what all of them held.
 #[derive(Clone, Debug)]
@@ -38,28 +44,47 @@ pub struct Guarded<T> {
     length: usize,
 }
 
+/// Appends so many numbers of garbage, eight of each draw.
+fn litter<T: Garbage>(rng: &mut Rng, count: usize, numbers: &mut Vec<T>) {
+    let length = numbers.len() + count;
+    numbers.reserve(count.next_multiple_of(8));
+    while numbers.len() < length {
+        let bits = rng.bits();
+        let eight = [0, 8, 16, 24, 32, 40, 48, 56];
+        numbers.extend(eight.map(|turn| T::from_bits(bits.rotate_right(turn))));
+    }
+    numbers.truncate(length);
+}
+
 impl<T: Garbage> Guarded<T> {
     /// So many numbers of garbage.
     pub fn garbage(rng: &mut Rng, length: usize) -> Guarded<T> {
+        Guarded::between_guards(rng, length, |rng, all| litter(rng, length, all))
+    }
+
+    /// These numbers, between guards.
+    pub fn holding(rng: &mut Rng, numbers: &[T]) -> Guarded<T> {
+        Guarded::between_guards(rng, numbers.len(), |_, all| all.extend(numbers))
+    }
+
+    /// Guards of garbage round what `put` appends.
+    fn between_guards(
+        rng: &mut Rng,
+        length: usize,
+        put: impl Fn(&mut Rng, &mut Vec<T>),
+    ) -> Guarded<T> {
         // Guards of different lengths put bytes at every alignment.
         let (front, back) = (rng.range(1, 9), rng.range(1, 9));
-        let all: Vec<T> = (0..front + length + back)
-            .map(|_| T::from_bits(rng.bits()))
-            .collect();
+        let mut all = Vec::with_capacity(front + length + back);
+        litter(rng, front, &mut all);
+        put(rng, &mut all);
+        litter(rng, back, &mut all);
         Guarded {
             copy: all.clone(),
             all,
             front,
             length,
         }
-    }
-
-    /// These numbers, between guards.
-    pub fn holding(rng: &mut Rng, numbers: &[T]) -> Guarded<T> {
-        let mut guarded = Guarded::garbage(rng, numbers.len());
-        guarded.lend().copy_from_slice(numbers);
-        guarded.copy.clone_from(&guarded.all);
-        guarded
     }
 
     /// The numbers between the guards, to lend.

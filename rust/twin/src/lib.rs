@@ -1,9 +1,10 @@
 //! Bicycle stress levels and least-stress routes on a street network.
 //!
-//! An implementation of "document 01" written from that paper alone, to be
-//! compared with another one. The calls are [`read`], [`judge_segment`],
-//! [`judge_movement`], [`route`] and [`least_stress`]; [`is_network`] is the
-//! paper's test 8. Refusals are the paper's numbers.
+//! An implementation of "document 01" and of its Note 1, the refused line,
+//! written from those papers alone, to be compared with another one. The calls
+//! are [`read`], [`refused_line`], [`judge_segment`], [`judge_movement`],
+//! [`route`] and [`least_stress`]; [`is_network`] is the paper's test 8.
+//! Refusals are the papers' numbers.
 //!
 //! | number | meaning |
 //! |-------:|---------|
@@ -20,6 +21,7 @@
 //! | 11 | scratch or buffer too short |
 //! | 12 | a segment not below S, or a run not below 2S or not open |
 //! | 13 | no movement |
+//! | 14 | `read` would accept the text: no line is refused |
 
 #![forbid(unsafe_code)]
 #![deny(missing_docs)]
@@ -35,5 +37,5 @@ mod search;
 pub use edition::{MAX_NETWORK, MAX_NODES, MAX_RUNS, MAX_SEGMENTS};
 pub use edition::{TOWN_NODES, TOWN_RUNS, TOWN_SEGMENTS};
 pub use network::{is_network, judge_movement, judge_segment};
-pub use read::read;
+pub use read::{read, refused_line};
 pub use search::{Found, least_stress, route};

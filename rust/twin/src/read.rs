@@ -1,9 +1,22 @@
-//! Read: a network text into kept bytes.
+//! Read: a network text into kept bytes; and the line that it refuses.
 
 use crate::edition::{MAX_NODES, MAX_SEGMENTS};
 use crate::frame::{End, HEAD, HEAD_KIND, Head, SEGMENT, SEGMENT_KIND, Segment, checks};
+use std::ops::Range;
 
 const NEWLINE: u8 = 0x0A;
+
+/// The refusal of a text that [`read`] would accept.
+const ACCEPTED: u8 = 14;
+
+/// Why a text is refused.
+struct Fault<'t> {
+    number: u8,
+    /// The line, counted from 1.
+    line: usize,
+    /// The text from that line on.
+    rest: &'t [u8],
+}
 
 /// Reads a network text into `output`.
 ///
@@ -11,20 +24,13 @@ const NEWLINE: u8 = 0x0A;
 /// them stay. A refusal gives number and line, counted from 1, and leaves
 /// `output` as it was.
 pub fn read(text: &[u8], output: &mut [u8]) -> Result<usize, (u8, usize)> {
-    if text.is_empty() {
-        return Err((3, 1));
-    }
-    let (frame, rest) = first_frame::<HEAD>(text, HEAD_KIND).map_err(|number| (number, 1))?;
-    let head = Head::decode(&frame).ok_or((4, 1))?;
+    let (frame, head, rest) = head_line(text, output.len()).map_err(|number| (number, 1))?;
     let size = head.size();
-    if output.len() < size {
-        return Err((7, 1));
-    }
 
     // Decoded here first, for a refusal may still come.
     let mut kept = [[0; SEGMENT]; MAX_SEGMENTS];
     let kept = &mut kept[..head.segments];
-    segments(rest, head, kept)?;
+    segments(rest, head, kept).map_err(|fault| (fault.number, fault.line))?;
 
     let (first, others) = output[..size].split_at_mut(HEAD);
     first.copy_from_slice(&frame);
@@ -32,9 +38,54 @@ pub fn read(text: &[u8], output: &mut [u8]) -> Result<usize, (u8, usize)> {
     Ok(size)
 }
 
-/// Reads the lines after the head, a segment for each place.
+/// The part of a text that holds the line at which [`read`] refuses it, given
+/// an output of so many bytes, and the refusal's number.
+///
+/// The line's 0A is no part of it. Where segments are missing it is the empty
+/// part at the text's end, and so it is with 14, for a text that [`read`] would
+/// accept.
+pub fn refused_line(text: &[u8], room: usize) -> (u8, Range<usize>) {
+    let (number, rest) = match judge(text, room) {
+        Err(fault) => (fault.number, fault.rest),
+        Ok(()) => (ACCEPTED, &text[text.len()..]),
+    };
+    let start = text.len() - rest.len();
+    let end = rest.iter().position(|&byte| byte == NEWLINE);
+    (number, start..end.map_or(text.len(), |end| start + end))
+}
+
+/// Reads a text as [`read`] does before it writes.
+fn judge(text: &[u8], room: usize) -> Result<(), Fault<'_>> {
+    let (_, head, rest) = head_line(text, room).map_err(|number| Fault {
+        number,
+        line: 1,
+        rest: text,
+    })?;
+    let mut kept = [[0; SEGMENT]; MAX_SEGMENTS];
+    segments(rest, head, &mut kept[..head.segments])
+}
+
+/// Takes the first line as a head whose network has room: its frame, what it
+/// says, and the text after it; or fault 1, 2, 3, 4 or 7.
 #[inline]
-fn segments(mut rest: &[u8], head: Head, places: &mut [[u8; SEGMENT]]) -> Result<(), (u8, usize)> {
+fn head_line(text: &[u8], room: usize) -> Result<([u8; HEAD], Head, &[u8]), u8> {
+    if text.is_empty() {
+        return Err(3);
+    }
+    let (frame, rest) = first_frame::<HEAD>(text, HEAD_KIND)?;
+    let head = Head::decode(&frame).ok_or(4)?;
+    if room < head.size() {
+        return Err(7);
+    }
+    Ok((frame, head, rest))
+}
+
+/// Reads the lines after the head, a segment for each place.
+fn segments<'t>(
+    mut rest: &'t [u8],
+    head: Head,
+    places: &mut [[u8; SEGMENT]],
+) -> Result<(), Fault<'t>> {
     let mut taken = [0u8; MAX_NODES];
     let mut claim = |end: End| {
         let legs = &mut taken[end.node];
@@ -46,25 +97,25 @@ fn segments(mut rest: &[u8], head: Head, places: &mut [[u8; SEGMENT]]) -> Result
     let mut places = places.iter_mut();
     let mut line = 2;
     while !rest.is_empty() {
-        let (segment, after) =
-            first_frame::<SEGMENT>(rest, SEGMENT_KIND).map_err(|number| (number, line))?;
-        let place = places.next().ok_or((5, line))?;
+        let fault = |number| Fault { number, line, rest };
+        let (segment, after) = first_frame::<SEGMENT>(rest, SEGMENT_KIND).map_err(fault)?;
+        let place = places.next().ok_or(fault(5))?;
         let fields = Segment(&segment);
         if !fields.in_order(head) {
-            return Err((4, line));
+            return Err(fault(4));
         }
         if !(claim(fields.a()) && claim(fields.b())) {
-            return Err((6, line));
+            return Err(fault(6));
         }
         *place = segment;
         rest = after;
         line += 1;
     }
-    if places.len() == 0 {
-        Ok(())
-    } else {
-        Err((5, line))
+    if places.len() > 0 {
+        let number = 5;
+        return Err(Fault { number, line, rest });
     }
+    Ok(())
 }
 
 /// Takes the first line as a frame of `L` bytes and the given kind.

@@ -7,9 +7,10 @@ use search::{least_stress, route};
 use towns::draw::{self, Rng, Shape, Spot, damage, damage_kept};
 use towns::lend::{Guarded, Lengths, Lent};
 use towns::town::{Approach, Segment, Town, block_town, check, end, head, line, text_of};
-use twin::{Found, MAX_NETWORK, is_network, judge_movement, judge_segment, read};
+use twin::{Found, MAX_NETWORK, is_network, judge_movement, judge_segment, read, refused_line};
 
-/// Reads twice, here and with the oracle, and tests what the output keeps.
+/// Reads twice, here and with the oracle, and tests what the output keeps and
+/// which line is told as refused.
 fn answer(text: &[u8], room: usize) -> Result<usize, (u8, usize)> {
     let mut output: Guarded<u8> = Guarded::garbage(&mut Rng::new(room as u64), room);
     let answer = read(text, output.lend());
@@ -29,6 +30,9 @@ fn answer(text: &[u8], room: usize) -> Result<usize, (u8, usize)> {
             String::from_utf8_lossy(text)
         ),
     }
+    let told = refused_line(text, room);
+    assert_eq!(told.0, answer.map_or_else(|(number, _)| number, |_| 14));
+    assert_eq!(told, oracle::refused_line(text, room), "{text:?}");
     answer
 }
 
@@ -143,6 +147,68 @@ fn output_too_short() {
     assert_eq!(answer(&text[..14], 0), Err((1, 1)));
     assert_eq!(answer(b"", 0), Err((3, 1)));
     assert_eq!(answer(&Town::new(1).text(), 6), Err((7, 1)));
+}
+
+/// Number, start and end of the refused line, with room for every network.
+fn told(text: &[u8]) -> (u8, usize, usize) {
+    let (number, part) = refused_line(text, usize::MAX);
+    assert_eq!((number, part.clone()), refused_line(text, MAX_NETWORK));
+    assert_eq!((number, part.clone()), oracle::refused_line(text, 1 << 32));
+    (number, part.start, part.end)
+}
+
+#[test]
+fn refused_lines() {
+    let head = Town::new(1).text();
+    let and = |more: &[u8]| [&head[..], more].concat();
+    assert_eq!(told(b""), (3, 0, 0));
+    assert_eq!(told(b"\n"), (1, 0, 0));
+    assert_eq!(told(b"\n0"), (1, 0, 0));
+    assert_eq!(told(b"0"), (1, 0, 1));
+    assert_eq!(told(b"00\n00\n"), (3, 0, 2));
+    assert_eq!(told(&head), (14, 15, 15));
+    assert_eq!(told(&head[..14]), (1, 0, 14));
+    assert_eq!(told(&and(b"\n00\n")), (1, 15, 15));
+    assert_eq!(told(&and(b"00")), (1, 15, 17));
+    assert_eq!(told(&and(b"00\r\n00")), (1, 15, 18));
+    assert_eq!(told(b"010100010000FD\r\n"), (1, 0, 15));
+    let block = block_town().text();
+    assert_eq!(told(&block), (14, 198, 198));
+    assert_eq!(told(&and(&block[15..])), (5, 15, 75));
+    assert_eq!(told(&block[..15]), (5, 15, 15), "too few");
+    assert_eq!(told(&block[..137]), (5, 137, 137), "too few");
+    assert_eq!(told(&block[..197]), (1, 137, 197), "no last 0A");
+    let parted = [&block[..76], b"\n", &block[76..]].concat();
+    assert_eq!(told(&parted), (1, 76, 76), "an empty line");
+    for room in 0..97 {
+        for text in [&block[..], &block[..15], &block[..16], &parted[..]] {
+            assert_eq!(refused_line(text, room), (7, 0..14), "the head line");
+        }
+    }
+    assert_eq!(refused_line(&block, 97), (14, 198..198));
+}
+
+/// Lines far longer than any frame: their end is theirs alone.
+#[test]
+fn long_refused_lines() {
+    let block = block_town().text();
+    let digits = vec![b'0'; 100_000];
+    for (before, line) in [(0, 1), (15, 2), (137, 4)] {
+        let with = |middle: &[u8]| [&block[..before], middle, b"\n", &block[before..]].concat();
+        let end = before + digits.len();
+        assert_eq!(answer(&with(&digits), MAX_NETWORK), Err((3, line)));
+        assert_eq!(told(&with(&digits)), (3, before, end));
+        let mut other = digits.clone();
+        other[7] = b'1';
+        assert_eq!(told(&with(&other)), (2, before, end));
+        for bad in [0, 50_000, 99_999] {
+            let mut other = digits.clone();
+            other[bad] = b'x';
+            assert_eq!(told(&with(&other)), (1, before, end));
+        }
+        let cut = [&block[..before], &digits[..]].concat();
+        assert_eq!(told(&cut), (1, before, end));
+    }
 }
 
 #[test]

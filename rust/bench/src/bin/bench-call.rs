@@ -2,8 +2,10 @@
 //! times and prints the nanoseconds of processor time that they took together:
 //! for counting instructions, and for comparing two archives.
 //!
-//! CALL is one of read segment movement route1 route2 route3 route4 least;
-//! SHAPE is `mixed`, the benchmark's grid, or a shape of town-gen.
+//! CALL is one of read read-last refused refused-last segment movement route1
+//! route2 route3 route4 least; those with `-last` take the town's text with a
+//! wrong check in its last line. SHAPE is `mixed`, the benchmark's grid, or a
+//! shape of town-gen.
 
 use bench::clock::microseconds;
 use bench::{Call, Side, Subject};

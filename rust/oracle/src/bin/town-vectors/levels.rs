@@ -1,11 +1,11 @@
-//! Inputs of program `levels`.
+//! Inputs of programs `levels` and `examples_refused`.
 
 use crate::{Folder, nodes_alone};
 use oracle::MOST_INPUT;
 use std::io;
 use towns::draw::{self, Rng, Shape, Spot, damage};
 use towns::sizes::MOST_SEGMENTS;
-use towns::town::{CENTRELINE, Segment, Town, check, end, head, line};
+use towns::town::{CENTRELINE, Segment, Town, block_town, check, end, head, line};
 
 pub fn write(out: &Folder) -> io::Result<()> {
     let printed = Town::new(2)
@@ -16,6 +16,7 @@ pub fn write(out: &Folder) -> io::Result<()> {
         b"010100020001FB\n0200000200010601f400030219000100000000000000000000000000000000E1 \n";
     out.refused("printed-refused", refused, 1, 2)?;
     ends_of_texts(out, &printed)?;
+    inner_lines(out)?;
     order_within_a_line(out)?;
     each_number(out)?;
     let thousand = whole_towns(out)?;
@@ -26,7 +27,7 @@ impl Folder {
     /// An input that is made to be refused with the number and at the line.
     fn refused(&self, name: &str, input: &[u8], number: u8, line: usize) -> io::Result<()> {
         let meant = format!("refused {number} {line}\n");
-        assert_eq!((self.answer)(input), meant, "{name}");
+        assert_eq!(oracle::levels(input), meant, "{name}");
         self.put(name, input)
     }
 }
@@ -48,10 +49,26 @@ fn ends_of_texts(out: &Folder, printed: &[u8]) -> io::Result<()> {
         ("segment-after", and(&printed[15..]), 5, 3),
         ("head-only", printed[..15].to_vec(), 5, 2),
         ("carriage-returns", carriage_returns(printed), 1, 1),
+        (
+            "s0-segment-after",
+            [&empty[..], &printed[15..]].concat(),
+            5,
+            2,
+        ),
     ] {
         out.refused(name, &input, number, line)?;
     }
     Ok(())
+}
+
+/// Lines between others that are empty or end with a carriage return, and
+/// segments missing after some.
+fn inner_lines(out: &Folder) -> io::Result<()> {
+    let block = block_town().text();
+    let with = |more: &[u8], at: usize| [&block[..at], more, &block[at..]].concat();
+    out.refused("empty-line-inside", &with(b"\n", 76), 1, 3)?;
+    out.refused("carriage-return-inside", &with(b"\r", 136), 1, 3)?;
+    out.refused("last-segment-missing", &block[..137], 5, 4)
 }
 
 fn carriage_returns(text: &[u8]) -> Vec<u8> {

@@ -4,7 +4,9 @@
 //!
 //! - `levels/NAME.in`, a standard input of program `levels`, and
 //!   `levels/NAME.out`, what it must print;
-//! - `routes/NAME.in` and `routes/NAME.out`, the same for program
+//! - `levels/NAME.refused`, what program `examples_refused` must print for that
+//!   input;
+//! - `routes/NAME.in` and `routes/NAME.out`, the same as the first for program
 //!   `examples_routes`.
 //!
 //! Inputs are laid out by hand, or drawn from a seed and some of them damaged;
@@ -35,27 +37,38 @@ fn main() -> ExitCode {
 }
 
 fn write(directory: &Path) -> io::Result<()> {
-    levels::write(&Folder::new(directory.join("levels"), oracle::levels)?)?;
-    routes::write(&Folder::new(directory.join("routes"), oracle::routes)?)
+    let levels: Answer = ("out", |input| oracle::levels(input).into_bytes());
+    let refused: Answer = ("refused", oracle::refused);
+    let routes: Answer = ("out", |input| oracle::routes(input).into_bytes());
+    levels::write(&Folder::new(
+        directory.join("levels"),
+        vec![levels, refused],
+    )?)?;
+    routes::write(&Folder::new(directory.join("routes"), vec![routes])?)
 }
 
-/// Where the inputs and outputs of one program are written.
+/// How the outputs of a program end, and what it must print for an input.
+type Answer = (&'static str, fn(&[u8]) -> Vec<u8>);
+
+/// Where the inputs of some programs and their outputs are written.
 struct Folder {
     path: PathBuf,
-    /// What the program must print for an input.
-    answer: fn(&[u8]) -> String,
+    answers: Vec<Answer>,
 }
 
 impl Folder {
-    fn new(path: PathBuf, answer: fn(&[u8]) -> String) -> io::Result<Folder> {
+    fn new(path: PathBuf, answers: Vec<Answer>) -> io::Result<Folder> {
         fs::create_dir_all(&path)?;
-        Ok(Folder { path, answer })
+        Ok(Folder { path, answers })
     }
 
-    /// An input with its output.
+    /// An input with its outputs.
     fn put(&self, name: &str, input: &[u8]) -> io::Result<()> {
         fs::write(self.path.join(format!("{name}.in")), input)?;
-        fs::write(self.path.join(format!("{name}.out")), (self.answer)(input))
+        for (end, answer) in &self.answers {
+            fs::write(self.path.join(format!("{name}.{end}")), answer(input))?;
+        }
+        Ok(())
     }
 }
 
