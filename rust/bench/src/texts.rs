@@ -9,6 +9,12 @@ use std::hint::black_box;
 use towns::draw::mixed_grid;
 use towns::sizes::MOST_SEGMENTS;
 
+/// The bytes of a head's line.
+const HEAD_LINE: usize = 15;
+
+/// Calls that are made to learn how long one takes.
+const FEW: usize = 20;
+
 /// Which call is timed.
 #[derive(Clone, Copy)]
 enum Asked {
@@ -54,16 +60,24 @@ impl Subject {
 }
 
 /// Texts by name: a town's, good and damaged, and a line far longer than any
-/// frame.
-fn texts() -> [(&'static str, Vec<u8>); 4] {
+/// frame. Of the last text Read looks at one byte, and the line's end is
+/// searched in all.
+fn texts() -> [(&'static str, Vec<u8>); 7] {
     let town = mixed_grid(SEEDS.start, MOST_SEGMENTS);
     let digits = b"0123456789ABCDEF".repeat(62_500);
     let line = [&digits[..], b"\n"].concat();
+    let wrong = |mut text: Vec<u8>, at: usize| {
+        text[at] = b'x';
+        text
+    };
     [
         ("in order", town.text()),
         ("a wrong check in the last line", damaged(&town)),
-        ("a line of a million digits", line),
+        ("a wrong digit in line 2", wrong(town.text(), HEAD_LINE)),
+        ("a wrong digit in line 1", wrong(town.text(), 0)),
+        ("a line of a million digits", line.clone()),
         ("a million digits and no 0A", digits),
+        ("a million digits, the first wrong", wrong(line, 0)),
     ]
 }
 
@@ -76,11 +90,11 @@ pub fn table() {
         let output = vec![0; MAX_NETWORK];
         let mut subject = Subject { text, output };
         let number = subject.ask(Asked::Refused);
-        let calls = 1 + (SAMPLE / subject.sample(Asked::Read, 1)) as usize;
+        let calls = 1 + (SAMPLE / subject.sample(Asked::Refused, FEW)) as usize;
         let turns: Vec<(f64, f64)> = (0..SAMPLES).map(|turn| subject.both(calls, turn)).collect();
         let of = |value: fn(&(f64, f64)) -> f64| median(turns.iter().map(value).collect());
         let (read, refused) = (of(|turn| turn.0), of(|turn| turn.1));
         let ratio = of(|turn| turn.1 / turn.0);
-        println!("| {title} | {length} | {number} | {read:.1} | {refused:.1} | **{ratio:.2}** |");
+        println!("| {title} | {length} | {number} | {read:.2} | {refused:.2} | **{ratio:.2}** |");
     }
 }

@@ -42,6 +42,8 @@ fn levels_are_the_oracles() {
 #[test]
 fn refused_lines_are_the_oracles() {
     hold_all("tests/levels", "refused", refused);
+    let program = stored("crates/examples_refused");
+    hold(&program.join("stdin"), &program.join("stdout"), refused);
 }
 
 /// By hand: a line with bytes that are no letters, and a text in order.
