@@ -17,6 +17,7 @@ use Rattle.cursor.specs.NoteOne.{LineCall, ReadCall, OfRefusal, OfAccept
 use Rattle.cursor.proofs.LineLaws.{take-first, first-ends, first-no-end}
 use Rattle.cursor.proofs.FirstFaulty.{TextStopped, text-stops}
 use Rattle.cursor.proofs.CursorLaws.{cursor-of, starts, from-start, cursor-inside}
+use Rattle.cursor.proofs.OneLine.{one-line}
 
 -- ---- which reading was told
 told-refused : (reading : Reading) {number k : ℕ} → refusal number k ≡ toldOf reading → reading ≡ refused number k
@@ -119,6 +120,7 @@ note-one =
         fourteen call read,
         λ (x : (count : ℕ) × (told (read .answer) ≡ written count)). of-acceptance call (told-kept _ _ (sym (x .1) ∙ tells read) .1) .fourteen,
       );
+      one-line = λ w v. one-line w v;
       own-text = λ call. (call .returned .of-text, begins call);
       inside = λ call. inside call;
     }

@@ -62,6 +62,9 @@ pub record NoteOne : Type 0 where
   -- 14 exactly when Read accepts
   pub fourteen-exactly : {text : List ℕ} {room : ℕ} (call : LineCall text room) (read : ReadCall text room)
       → (call .number ≡ numberOf NoRefusedLine) ↔ ((count : ℕ) × (told (read .answer) ≡ written count))
+  -- a text has one line k
+  pub one-line : {text line other : List ℕ} {k start place : ℕ} → IsLine text k start line → IsLine text k place other
+      → (start ≡ place) × (line ≡ other)
   -- the part stands in the caller's own text, at its place, and ends inside it
   pub own-text : {text : List ℕ} {room : ℕ} (call : LineCall text room)
       → (call .part .ptr .0 ≡ call .lent .ptr .0) × (call .part .ptr .1 ≡ call .lent .ptr .1 + placeOf call)
