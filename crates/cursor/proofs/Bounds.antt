@@ -18,7 +18,7 @@ use Rattle.network.specs.Legs.{taking, legsFree}
 use Rattle.network.specs.Faults.{segmentFault}
 use Rattle.network.specs.Network.{keptBytes}
 use Rattle.cursor.specs.Lines.{afterLine}
-use Rattle.cursor.specs.LineFault.{frameOf, orElse, firstFault, laterFault}
+use Rattle.cursor.specs.LineFault.{lineBytes, orElse, firstFault, laterFault}
 
 unless-most : (m : ℕ) (b : Bool) (refusal : Refusal) (later : ℕ) → numberOf refusal ≤ m → later ≤ m → unless b refusal later ≤ m
 unless-most m true refusal later p q = q
@@ -53,12 +53,12 @@ pub first-most : (t : List ℕ) (room : ℕ) → firstFault t room ≤ 7
 unfolding firstFault
 first-most t room =
     cond-most 7 (isEmpty t) (numberOf WrongFrame) _ (omega arith)
-    (or-most 7 (headFault (frameOf t)) _ (omega (arith, head-most (frameOf t)))
-    (unless-most 7 (leb (keptBytes (frameOf t)) room) OutputTooShort 0 (omega arith) (omega arith)))
+    (or-most 7 (headFault (lineBytes t)) _ (omega (arith, head-most (lineBytes t)))
+    (unless-most 7 (leb (keptBytes (lineBytes t)) room) OutputTooShort 0 (omega arith) (omega arith)))
 
 pub later-most : (e n left : ℕ) (taken t : List ℕ) (lines : ℕ) → laterFault e n left taken t lines ≤ 6
 unfolding laterFault
 later-most e n left taken t zero =
     cond-most 6 (isEmpty t) (unless (eqb left 0) WrongCount 0) _ (unless-most 6 (eqb left 0) WrongCount 0 (omega arith) (omega arith))
-    (segment-most e n (ltb 0 left) taken (frameOf t))
-later-most e n left taken t (suc lines) = later-most e n _ (taking taken (frameOf t)) (afterLine t) lines
+    (segment-most e n (ltb 0 left) taken (lineBytes t))
+later-most e n left taken t (suc lines) = later-most e n _ (taking taken (lineBytes t)) (afterLine t) lines

@@ -124,12 +124,12 @@ module _ {t : List ℕ} {at i : ℕ} (w : Passed t at i) where
   pub byte-passed : i < length t → (getD t i 0 ≡ 10 → ⊥) → Passed t at (i + 1)
   byte-passed l e = record { inside = omega arith; same-end = end-later t i l e ∙ w .same-end }
 
-  pub block-passed : i + 32 ≤ length t → endsWithin 32 (drop i t) ≡ false → Passed t at (i + 32)
+  pub block-passed : (n : ℕ) → i + n ≤ length t → endsWithin n (drop i t) ≡ false → Passed t at (i + n)
   unfolding lineEnd
-  block-passed l e =
-      let p : length (firstLine (drop i t)) ≡ 32 + length (firstLine (drop (i + 32) t)) =
-      no-end-within 32 (drop i t) (omega (arith, length-drop i t)) e ∙ ap (λ (u : List ℕ). 32 + length (firstLine u)) (drop-drop 32 i t) in
-      let same : lineEnd t (i + 32) ≡ lineEnd t i = omega (arith, p) in
+  block-passed n l e =
+      let p : length (firstLine (drop i t)) ≡ n + length (firstLine (drop (i + n) t)) =
+      no-end-within n (drop i t) (omega (arith, length-drop i t)) e ∙ ap (λ (u : List ℕ). n + length (firstLine u)) (drop-drop n i t) in
+      let same : lineEnd t (i + n) ≡ lineEnd t i = omega (arith, p) in
       record { inside = l; same-end = same ∙ w .same-end }
 
   pub ends-here : i < length t → getD t i 0 ≡ 10 → i ≡ lineEnd t at

@@ -4,7 +4,6 @@
 use Prim.Native.Nat.{ℕ, _+_, _-_, _≤_}
 use mathlib.Core.Path.{_≡_, refl, sym, ap, _∙_, subst}
 use mathlib.Core.List.{List, [], _++_}
-use mathlib.Core.Logic.{_↔_}
 use native.Mathlib.Omega.{arith}
 use lib.ListN.{length, take, drop, length-take, length-drop, take-append-drop}
 use Rattle.text.specs.Read.{Reading, refused, kept, readOf}
@@ -65,7 +64,7 @@ module _ {text : List ℕ} {room : ℕ} (call : LineCall text room) where
           before = stopped .behind .before;
           after = drop n u;
           text-is = stopped .behind .text-is ∙ ap (λ (x : List ℕ). ended (stopped .behind .before) ++ x) parts;
-          counted = omega (arith, stopped .behind .counted, stopped .framed .first);
+          counted = omega (arith, stopped .behind .counted, stopped .whole-before .first);
           begins = start-is;
           ended-before = stopped .behind .ended-before;
           no-end = subst NoEnd (sym line-is) (first-no-end u);

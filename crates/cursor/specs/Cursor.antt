@@ -13,7 +13,7 @@ use Rattle.text.specs.Read.{Reading, refused, kept, readOf}
 use Rattle.cursor.specs.declared.Cursor.{Cursor}
 use Rattle.cursor.specs.Lines.{firstLine, fromLine, lineStart}
 
--- A refusal's number, where the part begins in the text, and its bytes.
+-- A refusal's number, where the part begins in the text, and how many bytes it has.
 abbrev pub cursorWith : ℕ → ℕ → ℕ → Cursor
 cursorWith number start bytes = record { number = number; start = start; length = bytes }
 

@@ -1,9 +1,8 @@
 -- Document 02, note 1, on the texts of crates/text/specs/Samples.antt: number, start and length of the part for each of its cases. A head line has 14 digits,
 -- a segment's 60. Its proof is proofs/SamplesHold.antt.
 -- Assumes nothing.
-use Prim.Native.Nat.{ℕ}
 use mathlib.Core.Path.{_≡_}
-use mathlib.Core.List.{List, [], _++_}
+use mathlib.Core.List.{[], _++_}
 use Rattle.text.specs.Samples.{characters, line, one, two, no, street, lowercase, unchecked, noWays, oneLeg}
 use Rattle.cursor.specs.Cursor.{cursorWith, cursorOf}
 

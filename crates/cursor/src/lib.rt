@@ -4,7 +4,7 @@ ghost use Prim.Native.Nat.{_+_, _≤_};
 ghost use mathlib.Core.Path.{_≡_};
 ghost use lib.ListN.{length, drop};
 ghost use Rattle.cursor.specs.Cursor.{cursorOf, Points};
-ghost use Rattle.cursor.specs.Steps.Places.{lineEnd, endsWithin, Passed, Framed, Begins};
+ghost use Rattle.cursor.specs.Steps.Places.{lineEnd, blockBytes, endsWithin, Passed, WholeBefore, Begins};
 use digits::decode_into;
 use frames::decoded::head_of;
 use frames::edition::frame_bytes;
@@ -17,7 +17,7 @@ use text::read::judge_text;
 // So many bytes of a line are looked at together.
 const BLOCK: usize = 32;
 
-// A refusal's number, and the part of the text that holds the refused line: where it begins, and its bytes.
+// A refusal's number, and the part of the text that holds the refused line: where it begins, and how many bytes it has.
 pub struct Cursor {
     pub number: u8,
     pub start: usize,
@@ -26,8 +26,8 @@ pub struct Cursor {
 
 // Whether 0A is among the bytes of the block at a place. It does not stop at the first, so that the compiler can take many at a step.
 fn block_ends(text: &[u8], at: usize) -> bool
-    requires { ⌜ at + 32 ≤ length (now text) ⌝ }
-    ensures { λ r. ⌜ r ≡ endsWithin 32 (drop at (now (text .entry))) ⌝ }
+    requires { ⌜ at + blockBytes ≤ length (now text) ⌝ }
+    ensures { λ r. ⌜ r ≡ endsWithin blockBytes (drop at (now (text .entry))) ⌝ }
 {
     let mut found = false;
     let mut k: usize = 0;
@@ -71,7 +71,7 @@ fn line_end(text: &[u8], at: usize) -> usize
 
 // Where a refused line begins. The lines before it have no fault: they are a head's and frames', of known lengths.
 fn line_start(text: &[u8], line: usize) -> usize
-    requires { ⌜ Framed (now text) line ⌝ }
+    requires { ⌜ WholeBefore (now text) line ⌝ }
     ensures { λ r. ⌜ Begins (now (text .entry)) line r ⌝ }
 {
     if line < 2 {

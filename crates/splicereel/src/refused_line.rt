@@ -11,7 +11,7 @@ pub fn refused_line<'a>(text: &'a [u8], room: usize, number: &mut u8) -> &'a [u8
     cursor::refused_line(text, room, number)
 }
 
-// The same as numbers: where the part begins, and its bytes.
+// The same as numbers: where the part begins, and how many bytes it has.
 pub fn locate(text: &[u8], room: usize) -> Cursor
     ensures { λ r. ⌜ r ≡ cursorOf (now (text .entry)) room ⌝ }
 {

@@ -2,7 +2,7 @@
 -- Assumes nothing.
 use Prim.Native.Nat.{ℕ, _+_, _*_, _-_, _≤_, _<_}
 use mathlib.Core.List.{List}
-use mathlib.Core.Path.{_≡_, refl, sym, ap, _∙_}
+use mathlib.Core.Path.{_≡_, sym, ap, _∙_}
 use native.Mathlib.Omega.{arith}
 use lib.ListN.{length, drop, length-drop}
 use borrow.Author.Needs.{needs}
@@ -12,7 +12,7 @@ use Rattle.frames.specs.Frame.{edition}
 use Rattle.frames.specs.Decoded.{headFields}
 use Rattle.digits.specs.Steps.Scan.{spelled}
 use Rattle.cursor.specs.Lines.{afterLines}
-use Rattle.cursor.specs.Steps.Places.{afterFrames, Framed, Begins}
+use Rattle.cursor.specs.Steps.Places.{afterFrames, WholeBefore, Begins}
 use Rattle.cursor.proofs.line_start.Statement.{statement}
 use Rattle.cursor.proofs.line_start.Tie as tie
 
@@ -23,7 +23,7 @@ first-begins {t} {k} l =
     let whole : t ≡ afterLines (k - 1) t = rw z in
     record { is = omega (arith, ap length whole); inside = omega arith; rest = whole }
 
-module _ {t : List ℕ} {k : ℕ} (w : Framed t k) (l : 2 ≤ k) {h : List ℕ} {head : Head} {size : ℕ}
+module _ {t : List ℕ} {k : ℕ} (w : WholeBefore t k) (l : 2 ≤ k) {h : List ℕ} {head : Head} {size : ℕ}
     (p : h ≡ spelled 7 t) (q : size ≡ frameBytes (head .edition)) (r : head ≡ headFields h) where
   place-is : 15 + (2 * size + 1) * (k - 2) ≡ afterFrames t (k - 2)
   place-is =

@@ -5,7 +5,7 @@ use Prim.Native.Nat.{ℕ, _-_, _≤_}
 use mathlib.Core.List.{List}
 use mathlib.Core.Path.{_≡_, sym, ap, _∙_}
 use native.Mathlib.Omega.{arith}
-use lib.ListN.{length, drop}
+use lib.ListN.{length}
 use borrow.Author.Needs.{needs}
 use Rattle.refusals.specs.declared.Refusal.{Refusal}
 use Rattle.refusals.specs.declared.Refusal.the-variants.{NoRefusedLine}
@@ -16,7 +16,7 @@ use Rattle.text.specs.Told.{told, toldOf}
 use Rattle.text.proofs.KeptText.{was-refused, was-kept}
 use Rattle.cursor.specs.Lines.{firstLine, fromLine, lineStart}
 use Rattle.cursor.specs.Cursor.{cursorWith, cursorOf}
-use Rattle.cursor.specs.Steps.Places.{lineEnd, Framed, Begins}
+use Rattle.cursor.specs.Steps.Places.{lineEnd, WholeBefore, Begins}
 use Rattle.cursor.proofs.FirstFaulty.{text-stops}
 use Rattle.cursor.proofs.CursorLaws.{cursor-of}
 use Rattle.cursor.proofs.locate.Statement.{statement}
@@ -28,8 +28,8 @@ accepts t room {count} e n =
     ap (λ (x : ℕ). cursorWith x (length t) 0) n ∙ sym (cursor-of t room (was-kept (readOf t room) count e .1))
 
 module _ (t : List ℕ) (room : ℕ) {line : ℕ} (refusal : Refusal) (e : told (Refused refusal line) ≡ toldOf (readOf t room)) where
-  framed : Framed t line
-  framed = text-stops t room (was-refused (readOf t room) refusal line e) .framed
+  whole-before : WholeBefore t line
+  whole-before = text-stops t room (was-refused (readOf t room) refusal line e) .whole-before
 
   refuses : {number start end : ℕ} → number ≡ numberOf refusal → Begins t line start → end ≡ lineEnd t start
       → cursorWith number start (end - start) ≡ cursorOf t room
@@ -57,7 +57,7 @@ enum-known-refusal : tie.Need-enum-known-refusal
 enum-known-refusal c = search needs
 
 line-start-requires : tie.Need-line-start-requires
-line-start-requires c κs = framed _ _ (c .before .refusal .given .0 .0) (ap told (sym (c .before .refusal .given .1)) ∙ c .before .before .before .judge-text .ensures)
+line-start-requires c κs = whole-before _ _ (c .before .refusal .given .0 .0) (ap told (sym (c .before .refusal .given .1)) ∙ c .before .before .before .judge-text .ensures)
 
 line-end-requires : tie.Need-line-end-requires
 line-end-requires c κs = search needs

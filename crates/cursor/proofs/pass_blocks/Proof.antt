@@ -4,7 +4,7 @@ use Prim.Native.Nat.{_-_}
 use mathlib.Core.Path.{sym, _∙_}
 use native.Mathlib.Omega.{arith}
 use lib.ListN.{length}
-use Rattle.cursor.specs.Steps.Places.{Passed}
+use Rattle.cursor.specs.Steps.Places.{blockBytes, Passed}
 use Rattle.cursor.proofs.LineLaws.{none-passed, block-passed}
 use Rattle.cursor.proofs.pass_blocks.Statement.{statement}
 use Rattle.cursor.proofs.pass_blocks.Tie as tie
@@ -36,7 +36,7 @@ loop-less c = omega (arith, c .before .before .before .loop .inv .inside)
 loop-again : tie.Need-loop-again Inv-loop μ-loop
 loop-again c =
     let w = c .before .before .before .loop .inv in
-    block-passed w (omega (arith, w .inside)) (sym (c .before .block-ends .ensures) ∙ c .if1 .left)
+    block-passed w blockBytes (omega (arith, w .inside)) (sym (c .before .block-ends .ensures) ∙ c .if1 .left)
 
 returns-2 : tie.Need-returns-2 Inv-loop μ-loop
 returns-2 c = c .before .loop .inv

@@ -15,6 +15,10 @@ use Rattle.cursor.specs.Lines.{firstLine, fromLine, lineStart}
 unfoldable pub lineEnd : List ℕ → ℕ → ℕ
 lineEnd text at = at + length (firstLine (drop at text))
 
+-- So many bytes of a line are looked at together.
+abbrev pub blockBytes : ℕ
+blockBytes = 32
+
 -- One of the first n bytes of a text is 0A.
 unfoldable pub endsWithin : ℕ → List ℕ → Bool
 endsWithin zero text = false
@@ -30,7 +34,7 @@ abbrev pub afterFrames : List ℕ → ℕ → ℕ
 afterFrames text lines = 2 * headBytes + 1 + (2 * frameBytes (edition (spelled headBytes text)) + 1) * lines
 
 -- The lines before line k are a head's and frames', so that their lengths tell where it begins.
-pub record Framed (text : List ℕ) (k : ℕ) : Type 0 where
+pub record WholeBefore (text : List ℕ) (k : ℕ) : Type 0 where
   pub first : 1 ≤ k
   pub long : 2 ≤ k → afterFrames text (k - 2) ≤ length text
   pub rest : 2 ≤ k → fromLine k text ≡ drop (afterFrames text (k - 2)) text
