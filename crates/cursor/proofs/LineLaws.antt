@@ -121,6 +121,9 @@ pub none-passed : {t : List ℕ} {at : ℕ} → at ≤ length t → Passed t at 
 none-passed l = record { inside = l; same-end = refl }
 
 module _ {t : List ℕ} {at i : ℕ} (w : Passed t at i) where
+  pub passed-on : {j : ℕ} → Passed t i j → Passed t at j
+  passed-on v = record { inside = v .inside; same-end = v .same-end ∙ w .same-end }
+
   pub byte-passed : i < length t → (getD t i 0 ≡ 10 → ⊥) → Passed t at (i + 1)
   byte-passed l e = record { inside = omega arith; same-end = end-later t i l e ∙ w .same-end }
 

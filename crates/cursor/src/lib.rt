@@ -1,10 +1,10 @@
 // Document 02, note 1: the part of a text that holds the refused line, without its 0A, and the refusal's number. The text is judged as Read judges it, in one
 // pass; where the refused line begins is then known from the lengths of the lines before it, and only that line is searched for its end.
-ghost use Prim.Native.Nat.{_+_, _≤_};
+ghost use Prim.Native.Nat.{_+_, _≤_, _<_};
 ghost use mathlib.Core.Path.{_≡_};
 ghost use lib.ListN.{length, drop};
 ghost use Rattle.cursor.specs.Cursor.{cursorOf, Points};
-ghost use Rattle.cursor.specs.Steps.Places.{lineEnd, blockBytes, endsWithin, Passed, WholeBefore, Begins};
+ghost use Rattle.cursor.specs.Steps.Places.{lineEnd, endsWithin, Passed, WholeBefore, Begins};
 use digits::decode_into;
 use frames::decoded::head_of;
 use frames::edition::frame_bytes;
@@ -14,8 +14,10 @@ use refusals::number_of;
 use text::ReadAnswer;
 use text::read::judge_text;
 
-// So many bytes of a line are looked at together.
-const BLOCK: usize = 32;
+// So many bytes of a line are looked at together: a vector of them, and what is left of one.
+const LARGE: usize = 32;
+
+const SMALL: usize = 8;
 
 // A refusal's number, and the part of the text that holds the refused line: where it begins, and how many bytes it has.
 pub struct Cursor {
@@ -24,41 +26,42 @@ pub struct Cursor {
     pub length: usize,
 }
 
-// Whether 0A is among the bytes of the block at a place. It does not stop at the first, so that the compiler can take many at a step.
-fn block_ends(text: &[u8], at: usize) -> bool
-    requires { ⌜ at + blockBytes ≤ length (now text) ⌝ }
-    ensures { λ r. ⌜ r ≡ endsWithin blockBytes (drop at (now (text .entry))) ⌝ }
+// Whether 0A is among so many bytes at a place. It does not stop at the first, so that the compiler can take many at a step.
+fn block_ends(text: &[u8], at: usize, size: usize) -> bool
+    requires { ⌜ at + size ≤ length (now text) ⌝ }
+    ensures { λ r. ⌜ r ≡ endsWithin size (drop at (now (text .entry))) ⌝ }
 {
     let mut found = false;
     let mut k: usize = 0;
-    while k < BLOCK {
+    while k < size {
         found = found | (text[at + k] == 10);
         k += 1;
     }
     found
 }
 
-// Passes over the blocks from a place on that hold no 0A.
-fn pass_blocks(text: &[u8], at: usize) -> usize
-    requires { ⌜ at ≤ length (now text) ⌝ }
+// Passes over the blocks of this size from a place on that hold no 0A.
+fn pass_blocks(text: &[u8], at: usize, size: usize) -> usize
+    requires { ⌜ (at ≤ length (now text)) × (0 < size) ⌝ }
     ensures { λ r. ⌜ Passed (now (text .entry)) at r ⌝ }
 {
     let mut place = at;
-    while BLOCK <= text.len() - place {
-        if block_ends(text, place) {
+    while size <= text.len() - place {
+        if block_ends(text, place, size) {
             return place;
         }
-        place += BLOCK;
+        place += size;
     }
     place
 }
 
-// Where the line that begins at a place ends: at its 0A, or at the text's end.
+// Where the line that begins at a place ends: at its 0A, or at the text's end. It is passed in large blocks, then in small ones, then byte by byte.
 fn line_end(text: &[u8], at: usize) -> usize
     requires { ⌜ at ≤ length (now text) ⌝ }
     ensures { λ r. ⌜ r ≡ lineEnd (now (text .entry)) at ⌝ }
 {
-    let mut i = pass_blocks(text, at);
+    let near = pass_blocks(text, at, LARGE);
+    let mut i = pass_blocks(text, near, SMALL);
     while i < text.len() {
         let next = i + 1;
         if text[i] == 10 {

@@ -2,16 +2,15 @@
 -- Assumes nothing.
 use Prim.Native.Nat.{_-_}
 use native.Mathlib.Omega.{arith}
-use Rattle.cursor.specs.Steps.Places.{blockBytes}
 use Rattle.cursor.proofs.LineLaws.{Looking, looking-starts, looking-goes-on, looking-ends}
 use Rattle.cursor.proofs.block_ends.Statement.{statement}
 use Rattle.cursor.proofs.block_ends.Tie as tie
 
 abbrev Inv-loop : tie.InvT-loop
-Inv-loop text at found₀ k₀ found k = Looking blockBytes text at k found
+Inv-loop text at size found₀ k₀ found k = Looking size text at k found
 
 abbrev μ-loop : tie.MeasureT-loop
-μ-loop text at found₀ k₀ found k = blockBytes - k
+μ-loop text at size found₀ k₀ found k = size - k
 
 loop-holds : tie.Need-loop-holds Inv-loop μ-loop
 loop-holds c = looking-starts _ _ _

@@ -4,19 +4,19 @@ use Prim.Native.Nat.{_-_}
 use mathlib.Core.Path.{sym, _∙_}
 use native.Mathlib.Omega.{arith}
 use lib.ListN.{length}
-use Rattle.cursor.specs.Steps.Places.{blockBytes, Passed}
+use Rattle.cursor.specs.Steps.Places.{Passed}
 use Rattle.cursor.proofs.LineLaws.{none-passed, block-passed}
 use Rattle.cursor.proofs.pass_blocks.Statement.{statement}
 use Rattle.cursor.proofs.pass_blocks.Tie as tie
 
 abbrev Inv-loop : tie.InvT-loop
-Inv-loop text at place₀ place = Passed text at place
+Inv-loop text at size place₀ place = Passed text at place
 
 abbrev μ-loop : tie.MeasureT-loop
-μ-loop text at place₀ place = length text - place
+μ-loop text at size place₀ place = length text - place
 
 loop-holds : tie.Need-loop-holds Inv-loop μ-loop
-loop-holds c = none-passed (c .before .pre)
+loop-holds c = none-passed (c .before .pre .0)
 
 sub-loop : tie.Need-sub-loop Inv-loop μ-loop
 sub-loop c = c .loop .inv .inside
@@ -31,12 +31,12 @@ add-place : tie.Need-add-place Inv-loop μ-loop
 add-place c = omega (arith, c .before .before .before .loop .inv .inside)
 
 loop-less : tie.Need-loop-less Inv-loop μ-loop
-loop-less c = omega (arith, c .before .before .before .loop .inv .inside)
+loop-less c = omega (arith, c .before .before .before .loop .inv .inside, c .before .before .before .before .before .pre .1)
 
 loop-again : tie.Need-loop-again Inv-loop μ-loop
 loop-again c =
     let w = c .before .before .before .loop .inv in
-    block-passed w blockBytes (omega (arith, w .inside)) (sym (c .before .block-ends .ensures) ∙ c .if1 .left)
+    block-passed w (c .before .before .before .before .before .args .size) (omega (arith, w .inside)) (sym (c .before .block-ends .ensures) ∙ c .if1 .left)
 
 returns-2 : tie.Need-returns-2 Inv-loop μ-loop
 returns-2 c = c .before .loop .inv

@@ -15,10 +15,6 @@ use Rattle.cursor.specs.Lines.{firstLine, fromLine, lineStart}
 unfoldable pub lineEnd : List ℕ → ℕ → ℕ
 lineEnd text at = at + length (firstLine (drop at text))
 
--- So many bytes of a line are looked at together.
-abbrev pub blockBytes : ℕ
-blockBytes = 32
-
 -- One of the first n bytes of a text is 0A.
 unfoldable pub endsWithin : ℕ → List ℕ → Bool
 endsWithin zero text = false
