@@ -60,8 +60,8 @@ impl Subject {
 }
 
 /// Texts by name: a town's, good and damaged, and a line far longer than any
-/// frame. Of the last text Read looks at one byte, and the line's end is
-/// searched in all.
+/// frame. The last text Read refuses at its first digits, and the line's end
+/// is searched in all of it.
 fn texts() -> [(&'static str, Vec<u8>); 7] {
     let town = mixed_grid(SEEDS.start, MOST_SEGMENTS);
     let digits = b"0123456789ABCDEF".repeat(62_500);
