@@ -1,4 +1,5 @@
-// Prints the plain level examples of document 01, and then its tables at both ends of every band. The stored output has the paper's numbers.
+// Prints the plain level examples of document 01, then its tables at both ends of every band, and form 1 round the limits of Note 2 of document 02. The
+// stored output has the papers' numbers.
 use frames::Crossing;
 use frames::Form;
 use frames::TurnLane;
@@ -74,6 +75,59 @@ fn turn_lanes(feet: u16, speed: u8) {
     put(stress::turn_lane::turn_lane_level(TurnLane::ShiftsLeft { feet, speed }));
     put(stress::turn_lane::turn_lane_level(TurnLane::NoBikeLane { feet, speed }));
     io::write_all(OUT, b"\n");
+}
+
+// Level and measure of form 1 with one lane.
+fn put_parking(speed: u8, reach: u8, marks: u8) {
+    let grade = stress::segment::grade_of(
+        EDITION,
+        Form::BesideParking {
+            lanes: 1,
+            speed,
+            reach,
+            marks,
+        },
+    );
+    put(grade.level);
+    put(grade.measure);
+}
+
+// Form 1 at this reach and speed: no mark, residential, often blocked, both.
+fn parking_marks(reach: u8, speed: u8) {
+    io::write_all(OUT, b"beside parking, reach");
+    put(reach);
+    io::write_all(OUT, b",");
+    put(speed);
+    io::write_all(OUT, b" mph:");
+    put_parking(speed, reach, 0);
+    io::write_all(OUT, b",");
+    put_parking(speed, reach, 2);
+    io::write_all(OUT, b",");
+    put_parking(speed, reach, 8);
+    io::write_all(OUT, b",");
+    put_parking(speed, reach, 10);
+    io::write_all(OUT, b"\n");
+}
+
+// On both sides of 25 mph, and in every speed band.
+fn parking_speeds(reach: u8) {
+    parking_marks(reach, 20);
+    parking_marks(reach, 24);
+    parking_marks(reach, 25);
+    parking_marks(reach, 26);
+    parking_marks(reach, 30);
+    parking_marks(reach, 31);
+    parking_marks(reach, 36);
+}
+
+// On both sides of each limit of the reach.
+fn parking_table() {
+    parking_speeds(26);
+    parking_speeds(27);
+    parking_speeds(28);
+    parking_speeds(29);
+    parking_speeds(30);
+    parking_speeds(31);
 }
 
 fn mixed_traffic() {
@@ -169,4 +223,5 @@ fn main() {
     turn_lanes(75, 16);
     turn_lanes(150, 20);
     turn_lanes(150, 21);
+    parking_table();
 }
