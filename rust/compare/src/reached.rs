@@ -5,6 +5,8 @@ use crate::question::{Question, Seen};
 use std::collections::BTreeMap;
 use std::fmt;
 use towns::draw::Shape;
+use towns::sizes::{HEAD, SEGMENT};
+use towns::town::RESIDENTIAL;
 
 /// How often each thing was reached.
 #[derive(Clone, Debug, Default)]
@@ -43,8 +45,11 @@ impl Reached {
             (Question::Search { .. }, _) if told[0] == 0 => "least none".into(),
             (Question::Search { .. }, _) => format!("least tolerance {} found", told[4]),
         });
-        if let (Question::Segment { .. }, 0) = (question, seen.number) {
+        if let (Question::Segment { segment }, 0) = (question, seen.number) {
             self.count(format!("segment measure {}", told[1]));
+            if let Some(street) = beside_parking(bytes, segment) {
+                self.count(street);
+            }
         }
         if let (Question::Search { .. }, 0, 1) = (question, seen.number, told[0]) {
             let size = if told[1] == 0 { "empty" } else { "ridden" };
@@ -94,6 +99,37 @@ fn refused_line(text: &[u8], seen: &Seen) -> String {
             format!("refused line: {number} at the {position} line")
         }
     }
+}
+
+/// The limits that Note 2 of document 02 asks of a street beside parking, with
+/// the last number on one side of each and the first on the other.
+const REACHES: [&str; 4] = ["under 27", "27", "28", "over 28"];
+const SPEEDS: [&str; 4] = ["under 24", "24", "25", "over 25"];
+const STREETS: [&str; 2] = ["residential", "not residential"];
+
+fn parking_case(reach: &str, speed: &str, street: &str) -> String {
+    format!("beside parking: reach {reach}, {speed} mph, {street}")
+}
+
+/// Where a segment of a network lies between those limits, if it is beside
+/// parking.
+fn beside_parking(net: &[u8], segment: usize) -> Option<String> {
+    let frame = &net[HEAD + SEGMENT * segment..][..SEGMENT];
+    let &[form, _ways, _lanes, speed, reach, marks] = frame.get(9..15)?.first_chunk()?;
+    let place = |limit: u8, number: u8| match number {
+        _ if number < limit => 0,
+        _ if number == limit => 1,
+        _ if number == limit + 1 => 2,
+        _ => 3,
+    };
+    let residential = usize::from(marks & RESIDENTIAL == 0);
+    (form == 1).then(|| {
+        parking_case(
+            REACHES[place(27, reach)],
+            SPEEDS[place(24, speed)],
+            STREETS[residential],
+        )
+    })
 }
 
 /// The first line that a refusal of Read can name.
@@ -171,6 +207,9 @@ fn must_reach() -> Vec<String> {
         all.push(format!("least tolerance {number} found"));
     }
     all.extend((1..=6).map(|measure| format!("segment measure {measure}")));
+    for (reach, speed) in REACHES.iter().flat_map(|r| SPEEDS.map(|s| (r, s))) {
+        all.extend(STREETS.map(|street| parking_case(reach, speed, street)));
+    }
     for call in ["route", "least"] {
         all.extend(["empty", "ridden"].map(|size| format!("{call} {size} route")));
     }

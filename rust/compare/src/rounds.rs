@@ -56,7 +56,8 @@ pub fn play(comparer: &mut Comparer<'_>, rng: &mut Rng) -> Done {
     movements_judged(comparer, rng, &subject)?;
     pairs(comparer, rng, &subject)?;
     odd_searches(comparer, rng, &subject)?;
-    no_networks(comparer, rng, &subject)
+    no_networks(comparer, rng, &subject)?;
+    narrow_parking(comparer, rng, subject)
 }
 
 /// The good text with enough room and too little, and each fault at the first
@@ -210,29 +211,40 @@ fn enough(rng: &mut Rng, runs: usize) -> Lengths {
     }
 }
 
-/// Pairs of nodes at every tolerance and by Least stress: the answers must
-/// rise with the tolerance, and Least stress must be the first of them.
+/// Pairs of nodes.
 fn pairs(comparer: &mut Comparer<'_>, rng: &mut Rng, subject: &Subject) -> Done {
     for _ in 0..5 {
         let (from, to) = two_nodes(rng, subject);
-        let mut answers = Vec::new();
-        for tolerance in [Some(1), Some(2), Some(3), Some(4), None] {
-            let lengths = enough(rng, subject.runs());
-            let question = Question::Search {
-                from,
-                to,
-                tolerance,
-                lengths,
-            };
-            let answer = comparer.compare(rng, subject.net.as_ref(), &subject.bytes, question)?;
-            answers.push(answer.told());
-        }
-        if let Err(complaint) = consistent(&answers) {
-            let question = format!("from {from} to {to}, tolerances 1 to 4 and least: {answers:?}");
-            return Err(comparer.disagreement(&subject.bytes, question, complaint));
-        }
+        pair(comparer, rng, subject, from, to)?;
     }
     Ok(())
+}
+
+/// Two nodes at every tolerance and by Least stress: the answers must rise
+/// with the tolerance, and Least stress must be the first of them.
+fn pair(
+    comparer: &mut Comparer<'_>,
+    rng: &mut Rng,
+    subject: &Subject,
+    from: usize,
+    to: usize,
+) -> Done {
+    let mut answers = Vec::new();
+    for tolerance in [Some(1), Some(2), Some(3), Some(4), None] {
+        let lengths = enough(rng, subject.runs());
+        let question = Question::Search {
+            from,
+            to,
+            tolerance,
+            lengths,
+        };
+        let answer = comparer.compare(rng, subject.net.as_ref(), &subject.bytes, question)?;
+        answers.push(answer.told());
+    }
+    consistent(&answers).map_err(|complaint| {
+        let question = format!("from {from} to {to}, tolerances 1 to 4 and least: {answers:?}");
+        comparer.disagreement(&subject.bytes, question, complaint)
+    })
 }
 
 /// Of what was told at tolerances 1 to 4 and by Least stress.
@@ -344,6 +356,34 @@ fn no_networks(comparer: &mut Comparer<'_>, rng: &mut Rng, subject: &Subject) ->
         }
     }
     Ok(())
+}
+
+/// A street beside parking in the place of one of the town's, on either side of
+/// each limit that Note 2 of document 02 asks about: judged, and its ends as a
+/// pair.
+fn narrow_parking(comparer: &mut Comparer<'_>, rng: &mut Rng, mut subject: Subject) -> Done {
+    if subject.town.segments.is_empty() {
+        return Ok(());
+    }
+    let segment = rng.below(subject.town.segments.len());
+    let street = &mut subject.town.segments[segment];
+    *street = street.street(
+        1,
+        rng.pick(&[1, 1, 1, 2]),
+        rng.pick(&[5, 23, 24, 25, 26, 30, 31, 36]),
+        rng.pick(&[0, 26, 27, 28, 29, 30]),
+        rng.below(16) as u8,
+    );
+    let ends = [street.a, street.b].map(|end| usize::from(end.node));
+    subject.bytes = subject.town.bytes();
+    subject.net = Net::parse(&subject.bytes);
+    comparer.compare(
+        rng,
+        subject.net.as_ref(),
+        &subject.bytes,
+        Question::Segment { segment },
+    )?;
+    pair(comparer, rng, &subject, ends[0], ends[1])
 }
 
 #[cfg(test)]

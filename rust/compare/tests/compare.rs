@@ -4,6 +4,9 @@
 use compare::Comparer;
 use compare::calls::{Archive, Calls, Twin};
 use splicereel::ffi::{Lent, Part, Told};
+use towns::draw;
+use towns::sizes::{HEAD, SEGMENT};
+use towns::town::{CENTRELINE, RESIDENTIAL};
 
 /// Rounds of about 230 comparisons each; a mismatch tells how to replay it.
 const ROUNDS: u64 = 1_500;
@@ -45,6 +48,9 @@ enum Fault {
     ToldOnNone,
     Measure,
     ThreesAndFoursMerged,
+    NoFootnote,
+    QuietAt25,
+    QuietByCentreline,
     NarrowSegment,
     NarrowRun,
     NarrowTolerance,
@@ -61,7 +67,7 @@ enum Fault {
     RoomBeforeTolerance,
 }
 
-const FAULTS: [Fault; 33] = [
+const FAULTS: [Fault; 36] = [
     Fault::Line,
     Fault::ByteKept,
     Fault::OutputPastTheEnd,
@@ -81,6 +87,9 @@ const FAULTS: [Fault; 33] = [
     Fault::ToldOnNone,
     Fault::Measure,
     Fault::ThreesAndFoursMerged,
+    Fault::NoFootnote,
+    Fault::QuietAt25,
+    Fault::QuietByCentreline,
     Fault::NarrowSegment,
     Fault::NarrowRun,
     Fault::NarrowTolerance,
@@ -111,6 +120,33 @@ impl Faulty {
         } else {
             number
         }
+    }
+}
+
+impl Faulty {
+    /// A network as a program takes it that is wrong about Note 2 of document
+    /// 02: its streets beside parking with other speeds or marks, which by
+    /// document 01 have the same levels.
+    fn misread(&self, net: &[u8]) -> Vec<u8> {
+        let mut net = net.to_vec();
+        let frames = net.get_mut(HEAD..).unwrap_or_default();
+        for frame in frames.chunks_exact_mut(SEGMENT) {
+            let whole = frame.iter().fold(0u8, |sum, &byte| sum.wrapping_add(byte)) == 0;
+            if let (true, [.., speed, _, marks]) = (whole && frame[9] == 1, &mut frame[..15]) {
+                match self.0 {
+                    Fault::NoFootnote => {
+                        (*speed, *marks) = ((*speed).max(25), *marks & !RESIDENTIAL);
+                    }
+                    Fault::QuietAt25 if *speed == 25 => *speed = 24,
+                    Fault::QuietByCentreline => {
+                        *marks = *marks & !RESIDENTIAL | (*marks & CENTRELINE) << 1;
+                    }
+                    _ => {}
+                }
+                draw::seal(frame);
+            }
+        }
+        net
     }
 }
 
@@ -170,7 +206,7 @@ impl Calls for Faulty {
 
     fn judge_segment(&self, net: &[u8], segment: usize, told: &mut Told) -> u32 {
         let segment = self.narrow(Fault::NarrowSegment, segment);
-        let number = Twin.judge_segment(net, segment, told);
+        let number = Twin.judge_segment(&self.misread(net), segment, told);
         match (self.0, number) {
             (Fault::Measure, 0) if told[1] == 4 => told[1] = 1,
             (Fault::ThreesAndFoursMerged, 0) if told[0] == 3 => told[0] = 4,
@@ -205,7 +241,7 @@ impl Calls for Faulty {
             buffer: &mut *lent.buffer,
             place: lent.place,
         };
-        let number = Twin.search(net, from, to, asked, again, told);
+        let number = Twin.search(&self.misread(net), from, to, asked, again, told);
         if self.has(Fault::LeastAtFour) && tolerance.is_none() && told[0] == 1 {
             told[4] = 4;
         }

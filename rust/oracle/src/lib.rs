@@ -1,6 +1,6 @@
 //! Bicycle stress levels and least-stress routes once more, simple and slow.
 //!
-//! Written from "document 01" and Note 1 of "document 02" alone, it shares no code with any
+//! Written from "document 01" and Notes 1 and 2 of "document 02" alone, it shares no code with any
 //! other implementation, and nothing here was made faster: bytes are parsed into
 //! plain fields, the levels are looked up in tables, every movement is listed
 //! in advance, and lengths are relaxed over that list until nothing changes.

@@ -197,7 +197,7 @@ impl Street {
         } else if self.reach >= 28 {
             2
         } else {
-            3
+            self.narrow()
         };
         let lanes = if self.lanes == 1 { 1 } else { 3 };
         [
@@ -206,6 +206,18 @@ impl Street {
             PARKING_SPEED[band(self.speed)],
             self.blocked(),
         ]
+    }
+
+    /// Measure 2 of form 1 for a reach of 27 and under: 3, and by Note 2 of
+    /// document 02 it is 2 where the limit is below 25 mph or the street is
+    /// residential.
+    fn narrow(&self) -> u8 {
+        let residential = self.marked(2);
+        if residential || self.speed <= 24 {
+            2
+        } else {
+            3
+        }
     }
 
     fn without_parking(&self) -> [u8; 4] {

@@ -3,6 +3,7 @@
 use oracle::{levels, refused, route, routes};
 use std::fs;
 use std::path::{Path, PathBuf};
+use towns::town::linden;
 
 /// A file or folder of the repository.
 fn stored(path: &str) -> PathBuf {
@@ -73,4 +74,28 @@ fn twice_leads_round_two_blocks() {
     let text = fs::read(stored("tests/routes/twice.in")).expect("a text");
     assert_eq!(route(&text, 0, 4, None), "found 1180 1\n");
     assert_eq!(route(&text, 0, 7, None), "found 2135 2\n");
+}
+
+/// By hand: in `linden` Note 2 of document 02 opens the residential street and
+/// the slow one at tolerance 2. In `linden-busy`, which has the same levels by
+/// document 01, the way goes round, or there is none.
+#[test]
+fn narrow_parking_lanes_shorten_a_route() {
+    let text = |name: &str| fs::read(stored("tests/routes").join(name)).expect("a text");
+    let (quiet, busy) = (text("linden.in"), text("linden-busy.in"));
+    let described = fs::read(stored("towns/linden.txt")).expect("a text");
+    assert_eq!((&quiet, &described), (&linden().text(), &quiet));
+    for (to, tolerance, now, before) in [
+        (2, 1, "found 1200\n", "found 1200\n"),
+        (2, 2, "found 800\n", "found 1200\n"),
+        (2, 3, "found 800\n", "found 800\n"),
+        (4, 1, "none\n", "none\n"),
+        (4, 2, "found 1100\n", "none\n"),
+        (4, 3, "found 1100\n", "found 1100\n"),
+        (5, 2, "none\n", "none\n"),
+        (5, 3, "found 1150\n", "found 1150\n"),
+    ] {
+        assert_eq!(route(&quiet, 0, to, Some(tolerance)), now, "{to} {tolerance}");
+        assert_eq!(route(&busy, 0, to, Some(tolerance)), before, "{to} {tolerance}");
+    }
 }

@@ -12,6 +12,6 @@ pub(crate) const MOST_FEET: u16 = 52_800;
 pub(crate) const MOST_TURN_FEET: u16 = 2_000;
 
 /// Bytes of a head.
-pub(crate) const HEAD: usize = 7;
+pub const HEAD: usize = 7;
 /// Bytes of a segment frame.
-pub(crate) const SEGMENT: usize = 30;
+pub const SEGMENT: usize = 30;

@@ -258,3 +258,15 @@ pub fn block_town() -> Town {
         .with(Segment::path(end(1, 2), end(1, 6), 900))
         .with(Segment::path(end(1, 0), end(2, 4), 300))
 }
+
+/// Linden, the town of `towns/linden.md`: a residential street and a slow one,
+/// both beside narrow parking lanes, and a third that is neither.
+pub fn linden() -> Town {
+    Town::new(6)
+        .with(Segment::path(end(0, 2), end(1, 6), 200))
+        .with(Segment::path(end(1, 2), end(2, 6), 600).street(1, 1, 25, 27, RESIDENTIAL))
+        .with(Segment::path(end(1, 1), end(3, 5), 500))
+        .with(Segment::path(end(3, 3), end(2, 7), 500))
+        .with(Segment::path(end(2, 2), end(4, 6), 300).street(1, 1, 20, 26, 0))
+        .with(Segment::path(end(2, 4), end(5, 0), 350).street(1, 1, 25, 27, CENTRELINE))
+}

@@ -44,9 +44,12 @@ fn mixed(lanes: u8, band: usize, marks: u8) -> u8 {
 
 #[inline]
 fn beside_parking(s: Segment<'_>) -> [u8; 4] {
+    // Note 2: there a narrow reach costs at most level 2.
+    let quiet = s.speed() < 25 || s.marks() & RESIDENTIAL != 0;
     [
         if s.lanes() == 1 { 1 } else { 3 },
         match s.reach() {
+            0..=27 if quiet => 2,
             0..=27 => 3,
             28 | 29 => 2,
             _ => 1,

@@ -7,7 +7,7 @@ use search::{least_stress, route};
 use towns::draw::Rng;
 use towns::lend::{Lengths, Lent};
 use towns::town::{Approach, Segment, Town, block_town, end};
-use towns::town::{CENTRELINE, MEDIAN, RESIDENTIAL};
+use towns::town::{BLOCKED, CENTRELINE, MEDIAN, RESIDENTIAL};
 use twin::{Found, judge_movement, judge_segment, read};
 
 /// Level and measure of one street, checked with the oracle.
@@ -66,6 +66,21 @@ fn beside_parking() {
     assert_eq!(street(1, 1, 25, 30, 0), (1, 1));
 }
 
+/// Note 2 of document 02: below 25 mph, or residential, 27 and under gives 2;
+/// the governing measure is chosen as before.
+#[test]
+fn quiet_streets_with_narrow_parking_lanes() {
+    assert_eq!(street(1, 1, 24, 27, 0), (2, 2));
+    assert_eq!(street(1, 1, 25, 27, RESIDENTIAL), (2, 2));
+    assert_eq!(street(1, 1, 25, 27, CENTRELINE), (3, 2));
+    assert_eq!(street(1, 1, 30, 0, RESIDENTIAL), (2, 2));
+    assert_eq!(street(1, 1, 31, 27, RESIDENTIAL), (3, 3));
+    assert_eq!(street(1, 1, 24, 27, BLOCKED), (3, 4));
+    assert_eq!(street(1, 2, 24, 27, RESIDENTIAL), (3, 1));
+    // Form 2 has no such footnote.
+    assert_eq!(street(2, 1, 24, 11, RESIDENTIAL), (2, 2));
+}
+
 #[test]
 fn without_parking() {
     assert_eq!(street(2, 2, 30, 12, MEDIAN), (2, 1));
@@ -115,6 +130,33 @@ fn mixed_traffic_as_written() {
                     _ => 4,
                 };
                 assert_eq!(street(0, lanes, speed, 0, marks), (level, 5));
+            }
+        }
+    }
+}
+
+/// "Measure 1, lanes: one 1, more 3. Measure 2, reach: 30 and over 1, 28 or 29
+/// 2, 27 and under 3", and by Note 2 "2 there for 27 and under". "Measure 3,
+/// speed by band: 1, 2, 3, 4. Measure 4, blocked often 3, else 1."
+#[test]
+fn beside_parking_as_written() {
+    for speed in 5..=85u8 {
+        for (reach, marks) in (0..=60u8).flat_map(|reach| (0..16u8).map(move |m| (reach, m))) {
+            let there = speed < 25 || marks & RESIDENTIAL != 0;
+            for lanes in [1, 2, 12] {
+                let four = [
+                    if lanes == 1 { 1 } else { 3 },
+                    match reach {
+                        30.. => 1,
+                        28 | 29 => 2,
+                        ..=27 => 3 - u8::from(there),
+                    },
+                    1 + [25, 30, 35].iter().filter(|&&last| speed > last).count() as u8,
+                    if marks & BLOCKED != 0 { 3 } else { 1 },
+                ];
+                let level = *four.iter().max().expect("four");
+                let measure = 1 + four.iter().position(|&each| each == level).expect("one");
+                assert_eq!(street(1, lanes, speed, reach, marks), (level, measure as u8));
             }
         }
     }

@@ -4,7 +4,7 @@ use crate::{Folder, nodes_alone};
 use std::io;
 use towns::draw::{self, Shape};
 use towns::sizes::MOST_SEGMENTS;
-use towns::town::{Approach, Segment, Town, block_town, end};
+use towns::town::{Approach, RESIDENTIAL, Segment, Town, block_town, end, linden};
 
 pub fn write(out: &Folder) -> io::Result<()> {
     let mut one_way = block_town();
@@ -15,6 +15,8 @@ pub fn write(out: &Folder) -> io::Result<()> {
     for (name, town) in [
         ("twice", twice()),
         ("none", none()),
+        ("linden", linden()),
+        ("linden-busy", busy(linden())),
         ("single-node", Town::new(1)),
         ("single-node-loops", draw::town(Shape::Single, 4, 4)),
         ("no-segments", nodes_alone()),
@@ -48,4 +50,14 @@ fn none() -> Town {
         .with(Segment::path(end(0, 0), end(1, 0), 100))
         .with(Segment::path(end(1, 1), end(2, 0), 100).ways(2))
         .with(Segment::path(end(3, 0), end(4, 0), 100).street(0, 6, 45, 0, 0))
+}
+
+/// The same town, no street of it below 25 mph or residential: document 01
+/// gives it the same levels, and Note 2 of document 02 does not.
+fn busy(mut town: Town) -> Town {
+    for street in town.segments.iter_mut().filter(|street| street.form == 1) {
+        street.speed = street.speed.max(25);
+        street.marks &= !RESIDENTIAL;
+    }
+    town
 }
