@@ -41,9 +41,9 @@
 
 /* The version of this header and of the archive that it belongs to. */
 #define SPLICEREEL_VERSION_MAJOR 0
-#define SPLICEREEL_VERSION_MINOR 1
+#define SPLICEREEL_VERSION_MINOR 2
 #define SPLICEREEL_VERSION_PATCH 0
-#define SPLICEREEL_VERSION "0.1.0"
+#define SPLICEREEL_VERSION "0.2.0"
 
 #ifdef __cplusplus
 extern "C" {
@@ -242,7 +242,9 @@ uint32_t splicereel_refused_line(
  * Judge a segment of a kept network.
  *
  * Returns 0: told[0] is the level, 1 to 4; told[1] is the governing measure
- * (enum splicereel_measure).
+ * (enum splicereel_measure). From version 0.2.0 on a reach of 27 and under
+ * beside parking costs level 2, not 3, where the limit is below 25 mph or the
+ * street is residential; Route and Least stress go by the same levels.
  * Refused: returns 8 or 12, told stays. The other elements of told stay.
  */
 uint32_t splicereel_judge_segment(

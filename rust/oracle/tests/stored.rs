@@ -95,7 +95,15 @@ fn narrow_parking_lanes_shorten_a_route() {
         (5, 2, "none\n", "none\n"),
         (5, 3, "found 1150\n", "found 1150\n"),
     ] {
-        assert_eq!(route(&quiet, 0, to, Some(tolerance)), now, "{to} {tolerance}");
-        assert_eq!(route(&busy, 0, to, Some(tolerance)), before, "{to} {tolerance}");
+        assert_eq!(
+            route(&quiet, 0, to, Some(tolerance)),
+            now,
+            "{to} {tolerance}"
+        );
+        assert_eq!(
+            route(&busy, 0, to, Some(tolerance)),
+            before,
+            "{to} {tolerance}"
+        );
     }
 }

@@ -111,6 +111,20 @@ impl Network {
     }
 
     /// Level and governing measure of a segment, or [`Refusal::NoSuchRun`].
+    ///
+    /// Linden has three streets beside narrow parking lanes. The residential
+    /// one and the one with a limit below 25 mph are level 2, the other is 3:
+    ///
+    /// ```
+    /// use splicereel::{Level, Measure, Network};
+    /// # let text = include_bytes!(concat!(env!("CARGO_MANIFEST_DIR"), "/../../towns/linden.txt"));
+    /// let linden = Network::read(text)?;
+    /// for (segment, level) in [(1, Level::Two), (4, Level::Two), (5, Level::Three)] {
+    ///     let judged = linden.judge_segment(segment)?;
+    ///     assert_eq!((judged.level, judged.measure), (level, Measure::Reach));
+    /// }
+    /// # Ok::<(), Box<dyn std::error::Error>>(())
+    /// ```
     pub fn judge_segment(&self, segment: usize) -> Result<Judged, Refusal> {
         lending::judge_segment(&self.bytes, segment)
     }

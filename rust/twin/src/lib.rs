@@ -1,6 +1,6 @@
 //! Bicycle stress levels and least-stress routes on a street network.
 //!
-//! An implementation of "document 01" and of Note 1 of "document 02",
+//! An implementation of "document 01" and of Notes 1 and 2 of "document 02",
 //! written from those papers alone, to be compared with another one. The calls
 //! are [`read`], [`refused_line`], [`judge_segment`], [`judge_movement`],
 //! [`route`] and [`least_stress`]; [`is_network`] is the paper's test 8.

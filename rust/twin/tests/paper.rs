@@ -156,7 +156,10 @@ fn beside_parking_as_written() {
                 ];
                 let level = *four.iter().max().expect("four");
                 let measure = 1 + four.iter().position(|&each| each == level).expect("one");
-                assert_eq!(street(1, lanes, speed, reach, marks), (level, measure as u8));
+                assert_eq!(
+                    street(1, lanes, speed, reach, marks),
+                    (level, measure as u8)
+                );
             }
         }
     }
