@@ -115,6 +115,7 @@ fn parking_case(reach: &str, speed: &str, street: &str) -> String {
 /// parking.
 fn beside_parking(net: &[u8], segment: usize) -> Option<String> {
     let frame = &net[HEAD + SEGMENT * segment..][..SEGMENT];
+    // These fields follow the kind, two ends of three bytes and the length.
     let &[form, _ways, _lanes, speed, reach, marks] = frame.get(9..15)?.first_chunk()?;
     let place = |limit: u8, number: u8| match number {
         _ if number < limit => 0,
