@@ -18,11 +18,11 @@ pub record RoutesAmended (net : List ℕ) : Type 0 where
   -- a route within a tolerance before is within it after, and as long
   pub within-still : {t a b : ℕ} (rs : List ℕ) → Within (formerBicycle net) t a b rs → Within (bicycle net) t a b rs
   pub same-length : {t a b : ℕ} (rs : List ℕ) → Within (formerBicycle net) t a b rs → lengthOf (bicycle net) rs ≡ lengthOf (formerBicycle net) rs
-  -- so where there was a route Route returns one, and no longer one; and where it says none there was none
+  -- so where there was a route Route returns one that is at most as long; and where it says none there was none
   pub route-no-longer : {from to t : ℕ} (call : RouteCall net from to t) (rs : List ℕ) → Within (formerBicycle net) t from to rs
       → (route : Found) × (toldRoute (call .answer) ≡ found route) × (route .length ≤ lengthOf (formerBicycle net) rs)
   pub none-before : {from to t : ℕ} (call : RouteCall net from to t) → toldRoute (call .answer) ≡ none → NoRoute (formerBicycle net) t from to
-  -- and Least stress asks for no higher a tolerance
+  -- and Least stress gives no higher a tolerance
   pub least-no-higher : {from to t : ℕ} (call : LeastCall net from to) → t ≤ 4 → LeastTolerance (formerBicycle net) t from to
       → (least : LeastRoute) × (toldLeast (call .answer) ≡ found least) × (least .tolerance ≤ t)
 
