@@ -300,8 +300,18 @@ impl Trial {
     /// Whether the program takes the file for a table.
     fn is_table(&self) -> bool {
         let mut lines = self.file.split(|&byte| byte == b'\n');
-        self.words.iter().any(|word| word.ends_with(".md"))
+        self.named().is_some_and(|name| name.ends_with(".md"))
             || lines.any(|line| line.trim_ascii_start().starts_with(b"|"))
+    }
+
+    /// The word that names the file, the second that is no option: an odd word
+    /// may make it standard input, and the path a place.
+    fn named(&self) -> Option<&String> {
+        let is_option = |word: &str| {
+            let second = word.strip_prefix('-').and_then(|rest| rest.chars().next());
+            second.is_some_and(|letter| !letter.is_ascii_digit())
+        };
+        self.words.iter().filter(|word| !is_option(word)).nth(1)
     }
 }
 
