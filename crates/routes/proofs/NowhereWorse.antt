@@ -10,7 +10,7 @@ use native.Mathlib.Omega.{arith}
 use Rattle.lists.proofs.Facts.{lt-or-ge}
 use Rattle.routes.specs.Streets.{Streets}
 use Rattle.routes.specs.Routes.{Open, Movement, After, Route, lengthOf, levelFrom, levelOf, Within, Shortest, NoRoute, LeastTolerance}
-use Rattle.routes.specs.NowhereWorse.{SameGround, NowhereWorse}
+use Rattle.routes.specs.NowhereWorse.{NowhereWorse}
 
 module _ {g h : Streets} (W : NowhereWorse g h) where
   -- ---- what is of h is of g

@@ -10,7 +10,6 @@ use Rattle.routes.specs.Routes.{lengthOf, Within, LeastTolerance}
 use Rattle.routes.specs.declared.Found.{Found}
 use Rattle.routes.proofs.NowhereWorse.{within-too, same-length, none-too, shortest-no-longer, least-no-higher}
 use Rattle.routes.proofs.Tolerance.{exists-rises}
-use Rattle.network.specs.Network.{editionOf}
 use Rattle.stress.proofs.AmendmentHolds.{amendment}
 use Rattle.streets.specs.Bicycle.{bicycle}
 use Rattle.streets.specs.FormerBicycle.{formerBicycle}

@@ -3,7 +3,7 @@
 -- equal grades.
 -- Assumes nothing.
 use Prim.Native.Nat.{ℕ, _≤_, max}
-use mathlib.Core.Path.{_≡_, refl, ap}
+use mathlib.Core.Path.{_≡_, refl, ap, _∙_}
 use mathlib.Core.Bool.{Bool, true, false, cond, _&&_, true≢false}
 use native.Mathlib.Omega.{arith}
 use lib.Dec.{leb, lit≤}
@@ -32,12 +32,12 @@ module _ (reach : ℕ) where
   above-narrow : leb reach 27 ≡ false → leb 28 reach ≡ true
   above-narrow e = let l = leb-false reach 27 e in le-leb 28 reach (omega arith)
 
-  reach-before : leb reach 27 ≡ true → formerReach reach ≡ 3
-  reach-before e = let l = leb-true reach 27 e in rw (lt-leb 30 reach (omega arith), lt-leb 28 reach (omega arith))
+  lowest-row : (level : ℕ) → leb reach 27 ≡ true → cond (leb 30 reach) 1 (cond (leb 28 reach) 2 level) ≡ level
+  lowest-row level e = let l = leb-true reach 27 e in rw (lt-leb 30 reach (omega arith), lt-leb 28 reach (omega arith))
 
   module _ (speed marks : ℕ) where
     reach-after : leb reach 27 ≡ true → isQuiet speed marks ≡ true → parkingReach speed reach marks ≡ 2
-    reach-after e q = let l = leb-true reach 27 e in rw (lt-leb 30 reach (omega arith), lt-leb 28 reach (omega arith), q)
+    reach-after e q = lowest-row (cond (isQuiet speed marks) 2 3) e ∙ rw q
 
     reach-no-higher : parkingReach speed reach marks ≤ formerReach reach
     reach-no-higher = rows-no-higher (leb 30 reach) (leb 28 reach) (isQuiet speed marks)
@@ -75,7 +75,7 @@ module _ (lanes speed reach marks : ℕ) (e : isAmended (BesideParking lanes spe
   unfolding formerGrade gradeOfFour
   level-before =
       second-apart (parkingLanes lanes) (formerReach reach) (parkingSpeed speed) (blockedLevel marks) 3
-      (reach-before reach (and-true (leb reach 27) (isQuiet speed marks) e .0))
+      (lowest-row reach 3 (and-true (leb reach 27) (isQuiet speed marks) e .0))
 
   level-after : gradeOf 1 (BesideParking lanes speed reach marks) .level ≡ max 2 (otherMeasures lanes speed marks)
   unfolding gradeOf gradeOfFour
