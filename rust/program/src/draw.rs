@@ -39,6 +39,7 @@ pub fn reach(town: &Town, reached: &Reached<'_>) -> Result<String, Fault> {
     let mut scene = scene(town)?;
     scene.caption = Some(reached.caption());
     let shades = Shades::up_to(reached.farthest());
+    scene.legend = "legend";
     scene.inks = shades.inks();
     let [not_reached, above] = [0, 1].map(|more| scene.inks.len() + more);
     scene.inks.extend(others(reached.tolerance));
@@ -89,6 +90,7 @@ fn scene(town: &Town) -> Result<Scene, Fault> {
         nodes: nodes.collect(),
         streets: streets?,
         inks: levels(),
+        legend: "levels",
         route: Vec::new(),
     })
 }

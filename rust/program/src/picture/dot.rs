@@ -135,14 +135,22 @@ fn drawn(ink: &Ink) -> String {
 }
 
 fn legend(scene: &Scene) -> String {
-    let mut out = "  subgraph cluster_legend {\n    label=\"legend\"; fontsize=11; color=\"#BBBBBB\"; node [shape=point, width=0.02];\n".to_string();
+    let mut out = format!(
+        "  subgraph cluster_legend {{\n    label=\"{}\"; fontsize=11; color=\"#BBBBBB\"; node [shape=point, width=0.02];\n",
+        scene.legend
+    );
     // Graphviz lays parts that are not joined from right to left.
     for (place, ink) in (1..).zip(&scene.inks).collect::<Vec<_>>().into_iter().rev() {
+        // Below the title "levels" a number is enough.
+        let words = match ink.words.strip_prefix("level ") {
+            Some(level) if scene.legend == "levels" => level,
+            _ => &ink.words,
+        };
         let _ = writeln!(
             out,
             "    from_{place} -> to_{place} [dir=none, {}, label={}];",
             drawn(ink),
-            quoted(&format!(" {}", ink.words))
+            quoted(&format!(" {words}"))
         );
     }
     out + "  }\n"

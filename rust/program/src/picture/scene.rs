@@ -14,6 +14,8 @@ pub struct Scene {
     /// How streets are drawn, in the order of the legend: each lies over those
     /// after it.
     pub inks: Vec<Ink>,
+    /// What these tell, together: the title of a legend that has one.
+    pub legend: &'static str,
     /// The streets of the route, in the order of riding.
     pub route: Vec<Ride>,
 }
