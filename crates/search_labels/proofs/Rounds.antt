@@ -120,18 +120,3 @@ module _ {w : Graph} {back : ℕ → ℕ → Bool} {goal spent : ℕ → Bool} {
 
     pub search_less : unsettled best' w.size m' < unsettled best w.size m
     search_less = settled_less F S.settled l (S.whose l) R.relaxed R.next
-
--- the same search for a goal that is the same of every run
-pub stop_as : {w : Graph} {back : ℕ → ℕ → Bool} {goal goal' : ℕ → Bool} {best previous : List ℕ} {limit m : ℕ} → limit ≤ top
-    → ((r : ℕ) → r < w.size → goal r ≡ goal' r) → Stop w back goal best previous limit m → Stop w back goal' best previous limit m
-stop_as {m = m} small same S =
-    record {
-      follows = S.follows;
-      whence = S.whence;
-      labels = S.labels;
-      bounded = S.bounded;
-      none = λ r l h e. S.none r l h (same r l ∙ e);
-      whose = S.whose;
-      goal_met = λ k. sym (same (run_in m) (S.whose (omega arith)).inside) ∙ S.goal_met k;
-      sound = S.sound;
-    }

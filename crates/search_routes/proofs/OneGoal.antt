@@ -1,7 +1,7 @@
 -- One goal: a byte that is not 0 at one node, among zeros. A run arrives at a goal exactly when it arrives at that node, so a search for goals is the search
 -- for the node.
 -- Assumes nothing.
-use mathlib.Core.Path.{◌≡◌, sym, ◌∙◌, ap, subst₂}
+use mathlib.Core.Path.{◌≡◌, sym, ◌∙◌, ap, subst}
 use mathlib.Core.Bool.{false, not}
 use mathlib.Core.List.{List}
 use mathlib.Core.Logic.{⊎_elim}
@@ -20,11 +20,11 @@ use Rattle.streets.specs.Runs.{finish}
 use Rattle.streets.specs.Bicycle.{bicycle}
 use Rattle.streets.proofs.LeavingLaws.{finish_below}
 use Rattle.search_labels.specs.Steps.Search.{Stop}
-use Rattle.search_labels.proofs.Rounds.{stop_as}
+use Rattle.search_labels.specs.Steps.Keys.{run_in}
 use Rattle.search_relaxing.specs.Steps.Counted.{Counted, run_graph, goal_at}
 use Rattle.search_relaxing.specs.Steps.Unfound.{turns_back}
 use Rattle.search_relaxing.proofs.CountedLaws.{run_of}
-use Rattle.search_routes.specs.Steps.Answered.{Unmarked, arrives_at}
+use Rattle.search_routes.specs.Steps.Answered.{Unmarked, arrives_at, Ended}
 
 module _ (net : List ℕ) {goals : List ℕ} (U : Unmarked net goals) {to : ℕ} (inside : to < nodes_of net) where
   pub goals_long : nodes_of net ≤ length (set goals to 1)
@@ -49,10 +49,20 @@ module _ (net : List ℕ) {goals : List ℕ} (U : Unmarked net goals) {to : ℕ}
   -- the search for the goal has stopped as a search for the node, over all runs of the network
   pub stop_at_node : (t a : ℕ) {n limit m : ℕ} {best previous : List ℕ} → Counted net n → limit ≡ top
       → Stop (run_graph net n t a) (turns_back net) (goal_at net (set goals to 1)) best previous limit m
-      → Stop (graph_of (bicycle net) t a) (turns_back net) (arrives_at (bicycle net) to) best previous top m
+      → Ended (graph_of (bicycle net) t a) (arrives_at (bicycle net) to) best previous m
   stop_at_node t a {n} {limit} {m} {best} {previous} T whole S =
-      subst₂
-      (λ (size end : ℕ). Stop (run_graph net size t a) (turns_back net) (arrives_at (bicycle net) to) best previous end m)
+      subst
+      (λ (size : ℕ). Ended (run_graph net size t a) (arrives_at (bicycle net) to) best previous m)
       T.count
-      whole
-      (stop_as (omega arith) (λ r l. one_goal r (finish_below (run_of T l))) S)
+      (record {
+        follows = S.follows;
+        whence = S.whence;
+        bounded = S.bounded;
+        none = λ r l h e. S.none r l h (met r l ∙ e);
+        whose = S.whose;
+        goal_met = λ k. sym (met (run_in m) (S.whose k).inside) ∙ S.goal_met (omega (arith, whole));
+        sound = λ k. S.sound (omega (arith, whole));
+      })
+    where
+      met : (r : ℕ) → r < n → goal_at net (set goals to 1) r ≡ arrives_at (bicycle net) to r
+      met r l = one_goal r (finish_below (run_of T l))

@@ -3,7 +3,7 @@
 //! is half printed. A refused text's line is shown, the one that the oracle
 //! refuses, and no byte of it upsets a terminal.
 //!
-//! The variable FILES says how many (2,000 where it is not set), and SEED which;
+//! The variable FILES says how many (3,500 where it is not set), and SEED which;
 //! without it the clock chooses one. The seed is printed, and a file that fails
 //! is kept.
 
@@ -374,7 +374,7 @@ fn variable(name: &str) -> Option<u64> {
 
 #[test]
 fn damaged_files_get_an_answer_or_a_fault() {
-    let files = variable("FILES").unwrap_or(2_000);
+    let files = variable("FILES").unwrap_or(3_500);
     let clock = || SystemTime::now().duration_since(SystemTime::UNIX_EPOCH);
     let seed = variable("SEED").unwrap_or_else(|| clock().map_or(1, |time| time.as_secs()));
     println!("damage: {files} files, SEED={seed}");

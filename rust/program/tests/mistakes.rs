@@ -674,10 +674,12 @@ fn help_on_each_command() {
         &["draw", "--reach"],
     ] {
         let help = run(&[&["help"], words].concat(), b"");
-        let asked = run(&[words, &["-h"]].concat(), b"");
         let due = format!("splicereel {} FILE", words.join(" "));
         assert!(help.out.starts_with(&due), "{}", help.out);
-        assert_eq!((help.status, help.out), (asked.status, asked.out));
+        for option in ["-h", "--help"] {
+            let asked = run(&[words, &[option]].concat(), b"");
+            assert_eq!((help.status, &help.out), (asked.status, &asked.out));
+        }
     }
 }
 

@@ -1,4 +1,4 @@
--- From a node to itself the empty route stands, and nothing is written. Else the search stops at the explore run that arrives, whose chain is counted,
+-- From a node to itself the empty route stands, and nothing is written. Else the search stops at the nearest run that arrives, whose chain is counted,
 -- judged, and written into the tail of the buffer; or it ends, and there is no route.
 use mathlib.Core.Path.{refl, sym, subst}
 use Prim.Native.Nat.{◌-◌}
