@@ -14,7 +14,7 @@ use Rattle.queue.specs.Steps.Queue.{top, Front}
 use Rattle.search_labels.specs.Steps.Keys.{run_in, key, IsKey}
 use Rattle.search_labels.specs.Steps.Begin.{Begun}
 use Rattle.search_labels.specs.Steps.Queued.{Queued}
-use Rattle.search_labels.specs.Steps.Search.{Fair, IsSound, Turned, Settled, Spent, Due, Round, NoGoal, Stop}
+use Rattle.search_labels.specs.Steps.Search.{Fair, IsSound, Turned, Settled, Spent, Due, Round, NoGoal, Explored}
 use Rattle.search_labels.proofs.Beginning.{settled_none}
 use Rattle.search_labels.proofs.Invariant.{unsettled, label_room, settled_follows, settled_skip, settled_more, settled_less, no_goal_more}
 use Rattle.search_labels.proofs.Queueing.{queued_least, queued_skip}
@@ -69,37 +69,41 @@ module _ {w : Graph} {back : ℕ → ℕ → Bool} {goal spent : ℕ → Bool} {
       }
 
   -- it is a goal, and so not spent
-  pub search_stops : {limit : ℕ} → Spent w goal spent best → m < top → goal (run_in m) ≡ true → Stop w back goal best previous limit m
+  pub search_stops : {limit : ℕ} → Spent w goal spent best → m < top → goal (run_in m) ≡ true → Explored w back goal best previous limit m
   search_stops C l e =
       let K = S.whose l in
       record {
-        follows = settled_follows S.settled F;
-        whence = S.settled.whence;
+        stop = record {
+          follows = settled_follows S.settled F;
+          whence = S.settled.whence;
+          bounded = S.settled.bounded;
+          none = S.none;
+          whose = S.whose;
+          goal_met = λ k. e;
+          sound = λ k.
+              ⊎_elim
+              (λ (s : IsSound w best previous (run_in m)). s)
+              (λ (s : (spent (run_in m) ≡ true) × Turned w back best previous (run_in m) (at previous (run_in m))).
+              absurd (true≢false (sym e ∙ C.aside (run_in m) K.inside s.0)))
+              (S.settled.sound (run_in m) K.inside (omega (arith, K.exact)));
+        };
         labels = sound_or_turned;
-        bounded = S.settled.bounded;
-        none = S.none;
-        whose = S.whose;
-        goal_met = λ k. e;
-        sound = λ k.
-            ⊎_elim
-            (λ (s : IsSound w best previous (run_in m)). s)
-            (λ (s : (spent (run_in m) ≡ true) × Turned w back best previous (run_in m) (at previous (run_in m))).
-            absurd (true≢false (sym e ∙ C.aside (run_in m) K.inside s.0)))
-            (S.settled.sound (run_in m) K.inside (omega (arith, K.exact)));
       }
 
   -- its key is not below the limit
-  pub search_ends : {limit : ℕ} → limit ≤ m → Stop w back goal best previous limit m
+  pub search_ends : {limit : ℕ} → limit ≤ m → Explored w back goal best previous limit m
   search_ends l =
       record {
-        follows = settled_follows S.settled F;
-        whence = S.settled.whence;
+        stop = record {
+          follows = settled_follows S.settled F;
+          whence = S.settled.whence;
+          bounded = S.settled.bounded;
+          none = S.none;
+          whose = S.whose;
+          goal_met = λ k. absurd (omega arith);
+          sound = λ k. absurd (omega arith);
+        };
         labels = sound_or_turned;
-        bounded = S.settled.bounded;
-        none = S.none;
-        whose = S.whose;
-        goal_met = λ k. absurd (omega arith);
-        sound = λ k. absurd (omega arith);
       }
 
   -- it is settled

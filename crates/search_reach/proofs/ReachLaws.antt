@@ -31,7 +31,7 @@ use Rattle.streets.specs.Runs.{start, finish, leaving_leg, arrival_leg, joins}
 use Rattle.streets.specs.Bicycle.{bicycle}
 use Rattle.streets.proofs.LeavingLaws.{finish_below, back_ends}
 use Rattle.search_labels.specs.Steps.Keys.{label_key, label_in, run_in}
-use Rattle.search_labels.specs.Steps.Search.{loose, IsSound, Turned, Stop}
+use Rattle.search_labels.specs.Steps.Search.{loose, IsSound, Turned, Explored}
 use Rattle.search_labels.proofs.Invariant.{fair_paved}
 use Rattle.search_relaxing.specs.declared.Ask.{Ask}
 use Rattle.search_relaxing.specs.Steps.Counted.{Counted, Ready, run_graph, asked_graph, goal_at}
@@ -77,18 +77,18 @@ module _ {net index : List ℕ} {ask : Ask} (Y : Ready net index ask) where
     paved = fair_paved (graph_of (bicycle net) t ask.from) (fair all_runs)
 
     module _ {goal : ℕ → Bool} {best previous : List ℕ} {limit m : ℕ}
-        (S : Stop (run_graph net ask.runs t ask.from) (turns_back net) goal best previous limit m) where
+        (S : Explored (run_graph net ask.runs t ask.from) (turns_back net) goal best previous limit m) where
       -- the stop, over all runs of the network
-      whole_stop : Stop (graph_of (bicycle net) t ask.from) (turns_back net) goal best previous limit m
+      whole_stop : Explored (graph_of (bicycle net) t ask.from) (turns_back net) goal best previous limit m
       whole_stop =
-          subst (λ (n : ℕ). Stop (run_graph net n t ask.from) (turns_back net) goal best previous limit m) Y.counted.count S
+          subst (λ (n : ℕ). Explored (run_graph net n t ask.from) (turns_back net) goal best previous limit m) Y.counted.count S
 
       -- a label has room for one run more
       stop_room : (r : ℕ) → r < (bicycle net).runs → at best r < unlabelled → at best r + county_feet < unlabelled
       stop_room r l h =
           let w = loose (graph_of (bicycle net) t ask.from) in
           let F = fair all_runs in
-          omega (arith, label_bound w (at best) (at previous) (fair_paved w F) whole_stop.whence county_feet F.short r l h, F.room)
+          omega (arith, label_bound w (at best) (at previous) (fair_paved w F) whole_stop.stop.whence county_feet F.short r l h, F.room)
 
       -- the run before has no greater label
       before_less : (r : ℕ) → r < (bicycle net).runs → at best r < unlabelled → at previous r < (bicycle net).runs
@@ -98,7 +98,7 @@ module _ {net index : List ℕ} {ask : Ask} (Y : Ready net index ask) where
           ⊎_elim
           (λ (s : First w (at best) (at previous) r). absurd (omega (arith, s.alone, (fair all_runs).small)))
           (λ (s : Next w (at best) (at previous) r (at previous r)). omega (arith, s.exact))
-          (whole_stop.whence r l h)
+          (whole_stop.stop.whence r l h)
 
       -- each label is at least the length of a route to the node where its run arrives
       stop_attained : 1 ≤ t → Attained (bicycle net) t ask.from (at best)
@@ -120,7 +120,7 @@ module _ {net index : List ℕ} {ask : Ask} (Y : Ready net index ask) where
           → Distances (bicycle net) (nodes_of net) t ask.from farthest (length_to index best ask.from)
       stop_distances {farthest} one low small =
           arrivals_distances (bicycle net) (nodes_of net) t ask.from farthest (at best) (length_to index best ask.from) (label_in m) one paved
-          whole_stop.follows (stop_attained one) low small (length_start index best ask.from)
+          whole_stop.stop.follows (stop_attained one) low small (length_start index best ask.from)
           (λ b l apart. rw (length_elsewhere index best ask.from b apart) (least_arrival_lem Y best b l))
 
 -- ---- questions
@@ -167,19 +167,19 @@ follows_less l L = record { sources = L.sources; edges = λ p r i h b. L.edges p
 module _ {net index : List ℕ} {ask : Ask} (A : AskedAt net index ask) where
   -- with no goal a search stops at its limit
   stops_at_limit : {goals best previous : List ℕ} {limit m : ℕ} → Unmarked net goals → limit ≤ top
-      → Stop (asked_graph net ask) (turns_back net) (goal_at net goals) best previous limit m → limit ≤ m
+      → Explored (asked_graph net ask) (turns_back net) (goal_at net goals) best previous limit m → limit ≤ m
   unfolding goal_at
   stops_at_limit {limit = limit} {m} U small S =
       ⊎_elim
       (λ (h : m < limit).
-      let R = run_of A.ready.counted (S.whose (omega arith)).inside in
-      absurd (true≢false (sym (S.goal_met h) ∙ unmarked_node U (finish net (run_in m)) (finish_below R))))
+      let R = run_of A.ready.counted (S.stop.whose (omega arith)).inside in
+      absurd (true≢false (sym (S.stop.goal_met h) ∙ unmarked_node U (finish net (run_in m)) (finish_below R))))
       (λ (h : limit ≤ m). h)
       (lt_or_ge m limit)
 
   -- what the code lists is the map: a length that is clamped is above every label, so that nothing is left out
   stop_map : (greatest : ℕ) {goal : ℕ → Bool} {best previous : List ℕ} {limit m : ℕ} → clamped greatest ≤ label_in m
-      → Stop (asked_graph net ask) (turns_back net) goal best previous limit m
+      → Explored (asked_graph net ask) (turns_back net) goal best previous limit m
       → ReachMap (bicycle net) (nodes_of net) ask.tolerance ask.from greatest
       (entries_of (length_to index best ask.from) (clamped greatest) 0 (nodes_of net))
   stop_map greatest {best = best} low S =
@@ -193,14 +193,14 @@ module _ {net index : List ℕ} {ask : Ask} (A : AskedAt net index ask) where
       (λ (s : (greatest < unlabelled) × (clamped greatest ≡ greatest)). subst (λ (f : ℕ). ReachMap g (nodes_of net) t a f es) s.1 M)
       (λ (s : (unlabelled ≤ greatest) × (clamped greatest ≡ unlabelled - 1)).
       map_clamped (omega (arith, s.0, s.1))
-      (some_short g t a (at best) (clamped greatest) (follows_less low (whole_stop Y t S).follows) A.low (stop_attained Y t S A.low)
+      (some_short g t a (at best) (clamped greatest) (follows_less low (whole_stop Y t S).stop.follows) A.low (stop_attained Y t S A.low)
       (λ r l h. omega (arith, stop_room Y t S r l h, s.1)))
       M)
       (clamped_either greatest)
 
   pub map_from_stop : {goals best previous before after : List ℕ} {greatest farthest limit m count : ℕ} → Unmarked net goals
       → farthest ≡ clamped greatest → limit ≡ label_key farthest 0
-      → Stop (asked_graph net ask) (turns_back net) (goal_at net goals) best previous limit m
+      → Explored (asked_graph net ask) (turns_back net) (goal_at net goals) best previous limit m
       → NodesListed index best ask.from farthest (nodes_of net) before after count
       → MapWritten (bicycle net) (nodes_of net) ask.tolerance ask.from greatest before after count
   map_from_stop {best = best} {before = before} {greatest = greatest} {farthest} {limit} {m} {count} U far end S N =
@@ -251,8 +251,8 @@ module _ {net index : List ℕ} {ask : Ask} (A : AskedAt net index ask) {marks :
   unfolding goal_at
   marked_far b h =
       let W = whole_stop A.ready ask.tolerance S in
-      far_below (bicycle net) ask.tolerance ask.from b (at best) (label_in m) W.follows (apart_marked b h)
-      (λ q i l k e. W.none q i (omega (arith, (fair (all_runs A.ready)).small)) (ap (is_marked marks) e ∙ h))
+      far_below (bicycle net) ask.tolerance ask.from b (at best) (label_in m) W.stop.follows (apart_marked b h)
+      (λ q i l k e. W.stop.none q i (omega (arith, (fair (all_runs A.ready)).small)) (ap (is_marked marks) e ∙ h))
 
   -- where the search came to its end, there is none
   pub stop_none_marked : top ≤ m → NoneMarked (bicycle net) (nodes_of net) ask.tolerance ask.from marks
@@ -264,10 +264,10 @@ module _ {net index : List ℕ} {ask : Ask} (A : AskedAt net index ask) {marks :
     unfolding goal_at
     stop_some_near fits =
         let Y = A.ready in
-        let met = S.whose l in
+        let met = S.stop.whose l in
         let v = finish net (run_in m) in
         let inside = finish_below (run_of Y.counted met.inside) in
-        let goal : is_marked marks v ≡ true = S.goal_met (omega (arith, A.whole)) in
+        let goal : is_marked marks v ≡ true = S.stop.goal_met (omega (arith, A.whole)) in
         let low = (least_arrival_lem Y best v inside).least (run_in m) (omega (arith, Y.counted.count, met.inside)) refl in
         record {
           looked = looked_at Y fits;

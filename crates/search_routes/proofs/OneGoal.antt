@@ -22,9 +22,8 @@ use Rattle.streets.proofs.LeavingLaws.{finish_below}
 use Rattle.search_labels.specs.Steps.Search.{Stop}
 use Rattle.search_labels.specs.Steps.Keys.{run_in}
 use Rattle.search_relaxing.specs.Steps.Counted.{Counted, run_graph, goal_at}
-use Rattle.search_relaxing.specs.Steps.Unfound.{turns_back}
 use Rattle.search_relaxing.proofs.CountedLaws.{run_of}
-use Rattle.search_routes.specs.Steps.Answered.{Unmarked, arrives_at, Ended}
+use Rattle.search_routes.specs.Steps.Answered.{Unmarked, arrives_at}
 
 module _ (net : List ℕ) {goals : List ℕ} (U : Unmarked net goals) {to : ℕ} (inside : to < nodes_of net) where
   pub goals_long : nodes_of net ≤ length (set goals to 1)
@@ -48,11 +47,11 @@ module _ (net : List ℕ) {goals : List ℕ} (U : Unmarked net goals) {to : ℕ}
 
   -- the search for the goal has stopped as a search for the node, over all runs of the network
   pub stop_at_node : (t a : ℕ) {n limit m : ℕ} {best previous : List ℕ} → Counted net n → limit ≡ top
-      → Stop (run_graph net n t a) (turns_back net) (goal_at net (set goals to 1)) best previous limit m
-      → Ended (graph_of (bicycle net) t a) (arrives_at (bicycle net) to) best previous m
+      → Stop (run_graph net n t a) (goal_at net (set goals to 1)) best previous limit m
+      → Stop (graph_of (bicycle net) t a) (arrives_at (bicycle net) to) best previous top m
   stop_at_node t a {n} {limit} {m} {best} {previous} T whole S =
       subst
-      (λ (size : ℕ). Ended (run_graph net size t a) (arrives_at (bicycle net) to) best previous m)
+      (λ (size : ℕ). Stop (run_graph net size t a) (arrives_at (bicycle net) to) best previous top m)
       T.count
       (record {
         follows = S.follows;

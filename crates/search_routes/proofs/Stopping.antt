@@ -17,16 +17,16 @@ use Rattle.routes.proofs.Certificate.{Nearest, stay, walk_exact, walk_within, ne
 use Rattle.queue.specs.Steps.Queue.{top}
 use Rattle.lists.specs.Lists.{at}
 use Rattle.search_labels.specs.Steps.Keys.{label_in, run_in, key}
-use Rattle.search_labels.specs.Steps.Search.{Fair, loose}
+use Rattle.search_labels.specs.Steps.Search.{Fair, loose, Stop}
 use Rattle.lists.specs.Placed.{placed}
 use Rattle.lists.proofs.PlacedLaws.{placed_nothing}
 use Rattle.search_routes.specs.Steps.Trace.{Traced, Ends}
-use Rattle.search_routes.specs.Steps.Answered.{arrives_at, Ended}
+use Rattle.search_routes.specs.Steps.Answered.{arrives_at}
 use Rattle.routes.specs.Written.{Written}
 use Rattle.search_labels.proofs.Invariant.{fair_paved}
 
 module _ (g : Streets) (t a b : ℕ) {most m : ℕ} {best previous : List ℕ} (F : Fair g.runs g.feet most)
-    (S : Ended (graph_of g t a) (arrives_at g b) best previous m) where
+    (S : Stop (graph_of g t a) (arrives_at g b) best previous top m) where
   -- a run that arrives at b is at least as far as m's label
   arrival_far : (q : ℕ) → q < g.runs → g.finish q ≡ b → m ≤ key best q
   unfolding arrives_at

@@ -95,15 +95,18 @@ abbrev pub NoGoal : (ℕ → Bool) → List ℕ → ℕ → ℕ → Type 0
 NoGoal goal best n m = (r : ℕ) → r < n → key best r < m → goal r ≡ true → ⊥
 
 -- The search has stopped at m: at the key of the first goal in the order of settling, or because m is not below the limit and no goal is.
-pub record Stop (w : Graph) (back : ℕ → ℕ → Bool) (goal : ℕ → Bool) (best previous : List ℕ) (limit m : ℕ) : Type 0 where
+pub record Stop (w : Graph) (goal : ℕ → Bool) (best previous : List ℕ) (limit m : ℕ) : Type 0 where
   -- what leads on is right below m's label; at `top` it is right everywhere
   pub follows : Follows w (at best) (label_in m)
   pub whence : Stepwise w best previous
-  -- each label is sound, or that of a way back from a sound one
-  pub labels : (r : ℕ) → r < w.size → at best r < unlabelled → IsSound w best previous r ⊎ Turned w back best previous r (at previous r)
   pub bounded : m ≤ top
   pub none : NoGoal goal best w.size m
   pub whose : m < top → IsKey best w.size m
   pub goal_met : m < limit → goal (run_in m) ≡ true
   -- the label of the goal that is met is sound
   pub sound : m < limit → IsSound w best previous (run_in m)
+
+-- And what it knows then of every label: it is sound, or that of a way back from a sound one.
+pub record Explored (w : Graph) (back : ℕ → ℕ → Bool) (goal : ℕ → Bool) (best previous : List ℕ) (limit m : ℕ) : Type 0 where
+  pub stop : Stop w goal best previous limit m
+  pub labels : (r : ℕ) → r < w.size → at best r < unlabelled → IsSound w best previous r ⊎ Turned w back best previous r (at previous r)

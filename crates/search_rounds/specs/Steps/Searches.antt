@@ -12,7 +12,7 @@ use Rattle.search_labels.specs.Steps.Keys.{run_in}
 use Rattle.search_labels.specs.Steps.Labels.{Room}
 use Rattle.search_labels.specs.Steps.Begin.{NoneEarlier, Seed, Begun}
 use Rattle.search_labels.specs.Steps.Queued.{none_spent, Queued}
-use Rattle.search_labels.specs.Steps.Search.{Due, Round, Stop}
+use Rattle.search_labels.specs.Steps.Search.{Due, Round, Explored}
 use Rattle.search_relaxing.specs.declared.Ask.{Ask}
 use Rattle.search_rounds.specs.declared.explore.Met.{Met}
 use Rattle.search_relaxing.specs.Steps.Counted.{Counted, Ready, run_graph, asked_graph, usable, goal_at}
@@ -70,7 +70,7 @@ pub record Unused (net : List ℕ) (n : ℕ) (tree unfound : List ℕ) : Type 0 
 -- A search at a tolerance has stopped, at this key.
 abbrev pub StopsAt : List ℕ → Ask → ℕ → List ℕ → List ℕ → List ℕ → ℕ → Type 0
 StopsAt net ask t goals best previous key =
-    Stop (run_graph net ask.runs t ask.from) (turns_back net) (goal_at net goals) best previous ask.limit key
+    Explored (run_graph net ask.runs t ask.from) (turns_back net) (goal_at net goals) best previous ask.limit key
 
 -- A search at a tolerance met no goal: its labels, which a later search has written over, were these.
 pub record NothingMet (net : List ℕ) (ask : Ask) (t : ℕ) (goals : List ℕ) : Type 0 where

@@ -1,17 +1,13 @@
 -- What `find` asks, and what it answers.
 -- Assumes nothing.
-use Rattle.std.specs.Prelude.{◌≡◌, Bool, true, List, ℕ, ◌+◌, ◌-◌, ◌≤◌, ◌<◌, eqb, length}
+use Rattle.std.specs.Prelude.{◌≡◌, Bool, List, ℕ, ◌+◌, ◌-◌, ◌≤◌, ◌<◌, eqb, length}
 use Rattle.routes.specs.Streets.{Streets}
 use Rattle.routes.specs.Routes.{NoRoute}
 use Rattle.routes.specs.declared.Found.{Found as Route}
 use Rattle.routes.specs.Written.{Written}
-use Rattle.routes.specs.Steps.Labels.{Graph, Follows}
-use Rattle.lists.specs.Lists.{at}
 use Rattle.queue.specs.Steps.Queue.{top}
 use Rattle.network.specs.Network.{nodes_of}
-use Rattle.search_labels.specs.Steps.Keys.{label_in, run_in, IsKey}
 use Rattle.search_labels.specs.Steps.Labels.{Room}
-use Rattle.search_labels.specs.Steps.Search.{Stepwise, IsSound, NoGoal}
 use Rattle.search_relaxing.specs.declared.Ask.{Ask}
 use Rattle.search_relaxing.specs.Steps.Counted.{Ready}
 use Rattle.search_relaxing.specs.Steps.Unfound.{Unknown}
@@ -38,19 +34,6 @@ Unmarked net goals = Unknown (nodes_of net) goals
 -- The run arrives at b.
 unfoldable pub arrives_at : Streets → ℕ → ℕ → Bool
 arrives_at g b r = eqb (g.finish r) b
-
--- The search for the goals has ended at m, the key of the first of them in the order of settling; or none is labelled, and m is `top`. It is what a way from
--- one node to another needs of a search that has stopped.
-pub record Ended (w : Graph) (goal : ℕ → Bool) (best previous : List ℕ) (m : ℕ) : Type 0 where
-  -- what leads on is right below m's label; at `top` it is right everywhere
-  pub follows : Follows w (at best) (label_in m)
-  pub whence : Stepwise w best previous
-  pub bounded : m ≤ top
-  pub none : NoGoal goal best w.size m
-  pub whose : m < top → IsKey best w.size m
-  pub goal_met : m < top → goal (run_in m) ≡ true
-  -- the label of the goal that is met is sound
-  pub sound : m < top → IsSound w best previous (run_in m)
 
 -- From a node to itself: the empty route.
 abbrev pub staying : ℕ → Finding

@@ -50,7 +50,7 @@ returns-then-key-ge-TOP c =
       refl,
       stop_none (bicycle c.args.net.now) c.args.ask.tolerance _ _ (fair (counted T.network refl))
           (stop_at_node c.args.net.now c.requires.2 c.requires.0.to_node c.args.ask.tolerance _ T c.requires.0.whole
-          (rw (m.tried (omega (arith, c.requires.0.whole, c.if-key-ge-TOP.true))) at m.stop))
+          (rw (m.tried (omega (arith, c.requires.0.whole, c.if-key-ge-TOP.true))) at m.stop.stop))
           c.if-ask-to.false c.if-key-ge-TOP.true,
     )
 
@@ -62,7 +62,7 @@ count_runs-count-requires c =
       omega (arith, c.requires.1.scratch.previous_fits, o.auto.previous),
       rw (c.run_in-last.ensures, T.count)
           (stop_ends (bicycle c.args.net.now) o.result.tolerance _ _ (fair (counted T.network refl))
-          (stop_at_node c.args.net.now c.requires.2 c.requires.0.to_node o.result.tolerance _ T c.requires.0.whole o.ensures.stop)
+          (stop_at_node c.args.net.now c.requires.2 c.requires.0.to_node o.result.tolerance _ T c.requires.0.whole o.ensures.stop.stop)
           c.if-key-ge-TOP.false),
     )
 
@@ -99,7 +99,7 @@ fill-requires c =
 
 pub label_in-requires : goal.label_in-requires
 label_in-requires c =
-    c.explore-met.ensures.stop.bounded
+    c.explore-met.ensures.stop.stop.bounded
 
 pub returns : goal.returns
 returns c =
@@ -117,12 +117,12 @@ returns c =
       none_below = λ h.
           let n = m.ensures.none_below h in
           stop_none g (m.result.tolerance - 1) _ _ F
-          (stop_at_node c.args.net.now c.requires.2 c.requires.0.to_node (m.result.tolerance - 1) _ T whole n.stop)
+          (stop_at_node c.args.net.now c.requires.2 c.requires.0.to_node (m.result.tolerance - 1) _ T whole n.stop.stop)
           apart (omega (arith, n.beyond, whole));
       written =
           rw c.label_in.ensures
           (stop_written g m.result.tolerance _ _ F
-          (stop_at_node c.args.net.now c.requires.2 c.requires.0.to_node m.result.tolerance _ T whole m.ensures.stop)
+          (stop_at_node c.args.net.now c.requires.2 c.requires.0.to_node m.result.tolerance _ T whole m.ensures.stop.stop)
           apart c.if-key-ge-TOP.false (rw T.count at K)
           (tail_placed K c.args.place c.args.buffer.now (rw run at c.fill.ensures))
           (rw run at c.route_level-level.ensures));
