@@ -64,7 +64,7 @@ pub returns-then-nodes-list : goal.returns-then-nodes-list
 returns-then-nodes-list c =
     record {
       refusal =
-          too_few _ _ _ _ _ 2 _ c.is_network.ensures.answer c.if-not-is_network.false c.nodes_of-nodes.ensures c.if-from-nodes.false c.if-tolerance.false c.segments_of-runs.ensures c.if-runs-best.false (2 * c.nodes_of-nodes.result) refl c.if-nodes-list.true;
+          too_few _ _ _ _ _ 2 _ c.is_network.ensures.answer c.if-not-is_network.false c.nodes_of-nodes.ensures c.if-from-nodes.false c.if-tolerance.false c.segments_of-runs.ensures c.if-runs-best.false (2 * c.nodes_of-nodes.result) refl (omega (arith, c.if-nodes-list.true));
       holds = refl;
     }
 
@@ -96,6 +96,6 @@ pub returns : goal.returns
 returns c =
     record {
       refusal = unrefused _ _ _ _ _ 2 _ c.is_network.ensures.answer c.if-not-is_network.false c.nodes_of-nodes.ensures c.if-from-nodes.false c.if-tolerance.false
-          c.segments_of-runs.ensures c.if-runs-best.false (2 * c.nodes_of-nodes.result) refl c.if-nodes-list.false;
+          c.segments_of-runs.ensures c.if-runs-best.false (2 * c.nodes_of-nodes.result) refl (omega (arith, c.if-nodes-list.false));
       holds = c.reach.ensures;
     }

@@ -30,7 +30,7 @@ pub returns-then-tolerance : goal.returns-then-tolerance
 returns-then-tolerance c =
     route_no_tolerance c.args.net.now c.args.from c.args.to c.args.tolerance
     (lent c.args.best.now c.args.previous.now c.args.buffer.now) c.args.place
-    c.is_network.ensures.answer c.if-not-is_network.false c.nodes_of-nodes.ensures c.if-from-nodes.false c.if-tolerance.true
+    c.is_network.ensures.answer c.if-not-is_network.false c.nodes_of-nodes.ensures c.if-from-nodes.false (grind (arith, c.if-tolerance.true))
 
 pub segments_of-runs-requires : goal.segments_of-runs-requires
 segments_of-runs-requires c =
