@@ -6,13 +6,11 @@ ghost use Rattle.std.specs.Prelude.{ℕ, ◌+◌, ◌*◌, ◌≤◌, ◌<◌, �
 ghost use Rattle.digits.specs.Digits.{is_digit, digit, line_of};
 ghost use Rattle.digits.specs.Steps.Scan.{scanned, paired, Valued, Decoding};
 
-// What a scan of one line finds.
+// What a scan finds of a line of whole pairs of digits ended by 0A: the number of its bytes and their sum modulo 256.
 #[derive(Clone, Copy)]
-pub enum Scan {
-    // No whole pairs of digits ended by 0A.
-    Broken,
-    // The number of its bytes and their sum modulo 256.
-    Whole { count: usize, sum: usize },
+pub struct Scanned {
+    pub count: usize,
+    pub sum: usize,
 }
 
 // Lowercase digits are none.
@@ -46,7 +44,7 @@ fn byte_of(high: u8, low: u8) -> u8
 }
 
 // The line at a place of a text, without storing its bytes: a line may be of any length.
-pub fn scan_line(text: &[u8], at: usize) -> Scan
+pub fn scan_line(text: &[u8], at: usize) -> Option<Scanned>
     requires { at ≤ length text.now }
     ensures { result ≡ scanned 0 0 (line_of (drop at text.now)) }
 {
@@ -56,10 +54,10 @@ pub fn scan_line(text: &[u8], at: usize) -> Scan
     while i < text.len() {
         let x = text[i];
         if x == 10 {
-            return Scan::Whole { count, sum };
+            return Some(Scanned { count, sum });
         }
         if text.len() - i < 2 {
-            return Scan::Broken;
+            return None;
         }
         let y = text[i + 1];
         if is_digit(x) & is_digit(y) {
@@ -67,10 +65,10 @@ pub fn scan_line(text: &[u8], at: usize) -> Scan
             count += 1;
             i += 2;
         } else {
-            return Scan::Broken;
+            return None;
         }
     }
-    Scan::Broken
+    None
 }
 
 // Fills values with those of the digits at a place of a text, and tells whether all are digits. It does not stop at one that is none, so that the

@@ -1,28 +1,31 @@
 // The corner index: for each leg of each node, 0 while it is free, else 1 + the run that leaves by it.
-ghost use Rattle.frames.specs.Steps.Sizes.{town_size, county_size};
-ghost use Rattle.network.specs.Steps.Corners.{NoCorners};
+ghost use Rattle.std.specs.Prelude.{◌/◌};
+ghost use Rattle.network.specs.Steps.Corners.{NoCorners, run_leaving};
 ghost use Rattle.network.specs.Steps.Checks.{Claimable, Claimed};
 
 use frames::frame::{byte_at, word_at};
 use frames::{fields, sizes};
 
 // Eight legs for each node.
-const TOWN_CORNERS: usize = 8 * sizes::TOWN;
+pub const TOWN_CORNERS: usize = 8 * sizes::TOWN;
 
-const COUNTY_CORNERS: usize = 8 * sizes::COUNTY;
+pub const COUNTY_CORNERS: usize = 8 * sizes::COUNTY;
 
-// An index with every leg free, for a town.
-pub fn town_corners() -> [u16; TOWN_CORNERS]
-    ensures { NoCorners town_size result }
+// An index with every leg free, of eight legs for each node.
+pub fn free_corners<const CORNERS: usize>() -> [u16; CORNERS]
+    ensures { NoCorners (CORNERS / 8) result }
 {
-    [0u16; TOWN_CORNERS]
+    [0; CORNERS]
 }
 
-// The same for any network.
-pub fn county_corners() -> [u16; COUNTY_CORNERS]
-    ensures { NoCorners county_size result }
+// The run that leaves by a leg, which this entry of an index tells; none where the leg is free.
+pub fn run_leaving(entry: u16) -> Option<usize>
+    ensures { result ≡ run_leaving entry }
 {
-    [0u16; COUNTY_CORNERS]
+    if entry == 0 {
+        return None;
+    }
+    Some((entry - 1) as usize)
 }
 
 // Takes both legs of segment s where they are free and not one leg; else it leaves the index as it was.

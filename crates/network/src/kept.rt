@@ -7,7 +7,7 @@ ghost use Rattle.network.specs.Network.{is_network};
 ghost use Rattle.network.specs.Steps.Corners.{Indexed};
 ghost use Rattle.network.specs.Steps.Checks.{HeadFits, Awaits, FramesChecked, Checked, SegmentChecked, is_county};
 
-use crate::corners::{claim_legs, county_corners, town_corners};
+use crate::corners::{COUNTY_CORNERS, TOWN_CORNERS, claim_legs, free_corners};
 use frames::decoded::head_of;
 use frames::edition::frame_bytes;
 use frames::frame::is_framed;
@@ -97,7 +97,7 @@ pub fn is_county(net: &[u8]) -> bool
 pub fn is_kept_in_county(net: &[u8]) -> bool
     ensures { result ≡ is_network net.now }
 {
-    let mut index = county_corners();
+    let mut index = free_corners::<COUNTY_CORNERS>();
     is_network(net, &mut index)
 }
 
@@ -108,6 +108,6 @@ pub fn is_kept(net: &[u8]) -> bool
     if is_county(net) {
         return is_kept_in_county(net);
     }
-    let mut index = town_corners();
+    let mut index = free_corners::<TOWN_CORNERS>();
     is_network(net, &mut index)
 }

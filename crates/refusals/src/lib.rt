@@ -5,7 +5,7 @@ ghost use Rattle.std.specs.Prelude.{◌≡◌};
 ghost use Rattle.refusals.specs.Numbers.{number_of};
 
 // Why a call refuses. The paper's number of each case is `number_of` of specs/Numbers.antt.
-#[derive(Clone, Copy)]
+#[derive(Clone, Copy, PartialEq, Eq)]
 pub enum Refusal {
     // A line is not whole pairs of uppercase digits ended by 0A, or it is empty.
     NotDigits,
@@ -40,24 +40,26 @@ pub enum Refusal {
 }
 
 // The paper's number of a refusal.
-pub fn number_of(refusal: Refusal) -> u8
-    ensures { result ≡ number_of refusal }
-{
-    match refusal {
-        Refusal::NotDigits => 1,
-        Refusal::WrongCheck => 2,
-        Refusal::WrongFrame => 3,
-        Refusal::WrongField => 4,
-        Refusal::WrongCount => 5,
-        Refusal::LegTaken => 6,
-        Refusal::OutputTooShort => 7,
-        Refusal::NotANetwork => 8,
-        Refusal::NoSuchNode => 9,
-        Refusal::NoSuchTolerance => 10,
-        Refusal::NoRoom => 11,
-        Refusal::NoSuchRun => 12,
-        Refusal::NoMovement => 13,
-        Refusal::NoRefusedLine => 14,
-        Refusal::TooFewEntries => 15,
+impl From<Refusal> for u8 {
+    ghost from_gives = { λ refusal number. number ≡ number_of refusal };
+
+    fn from(refusal: Refusal) -> u8 {
+        match refusal {
+            Refusal::NotDigits => 1,
+            Refusal::WrongCheck => 2,
+            Refusal::WrongFrame => 3,
+            Refusal::WrongField => 4,
+            Refusal::WrongCount => 5,
+            Refusal::LegTaken => 6,
+            Refusal::OutputTooShort => 7,
+            Refusal::NotANetwork => 8,
+            Refusal::NoSuchNode => 9,
+            Refusal::NoSuchTolerance => 10,
+            Refusal::NoRoom => 11,
+            Refusal::NoSuchRun => 12,
+            Refusal::NoMovement => 13,
+            Refusal::NoRefusedLine => 14,
+            Refusal::TooFewEntries => 15,
+        }
     }
 }

@@ -8,20 +8,11 @@ ghost use Rattle.search_reach.specs.Steps.Map.{AskedAt};
 ghost use Rattle.search_reach.specs.Steps.Nearest.{is_far, Marks, Markable, SomeNear, FirstNear, Nearby};
 
 use crate::arrivals::length_to;
-use queue::TOP;
 use routes::Entry;
 use search_labels::label_in;
 use search_relaxing::Ask;
 use search_rounds::explore::explore;
 use streets::runs::nodes_of;
-
-#[derive(Clone, Copy)]
-pub enum Marked {
-    // No marked node has a route within the tolerance.
-    Nothing,
-    // The nearest, with its least length.
-    Found(Entry),
-}
 
 // The node is not marked, or farther than the length.
 fn is_far(index: &[u16], best: &[u32], from: usize, marks: &[u8], length: u32, node: usize) -> bool
@@ -53,7 +44,7 @@ fn first_near(
     nodes - left
 }
 
-// The nearest marked node within the tolerance. A start that is marked is its own nearest.
+// The nearest marked node within the tolerance, with its least length. A start that is marked is its own nearest.
 pub fn nearest(
     net: &[u8],
     index: &[u16],
@@ -61,23 +52,19 @@ pub fn nearest(
     marks: &[u8],
     best: &mut [u32],
     previous: &mut [u32],
-) -> Marked
+) -> Option<Entry>
     requires { AskedAt net.now index.now ask × Room ask.runs best.old previous.old × Marks net.now marks.now }
     ensures { Nearby (bicycle net.now) (nodes_of net.now) ask.tolerance ask.from marks.now result }
 {
     let from = ask.from;
     if marks[from] != 0 {
-        return Marked::Found(Entry {
+        return Some(Entry {
             node: from,
             length: 0,
         });
     }
-    let met = explore(net, index, ask, marks, best, previous);
-    let key = met.key;
-    if TOP <= key {
-        return Marked::Nothing;
-    }
-    let length = label_in(key);
+    let met = explore(net, index, ask, marks, best, previous)?;
+    let length = label_in(met.key);
     let node = first_near(index, best, from, marks, length, nodes_of(net));
-    Marked::Found(Entry { node, length })
+    Some(Entry { node, length })
 }

@@ -4,7 +4,7 @@ ghost use Rattle.network.specs.Network.{nodes_of};
 ghost use Rattle.streets.specs.Steps.Places.{RunOf};
 ghost use Rattle.search_labels.specs.Steps.Labels.{Room};
 ghost use Rattle.search_relaxing.specs.Steps.Counted.{goal_at};
-ghost use Rattle.search_rounds.specs.Steps.Searches.{Sought, Unused, StopsAt};
+ghost use Rattle.search_rounds.specs.Steps.Searches.{Sought, Unused, Stopped};
 
 use crate::begin::begin;
 use crate::settle::settle;
@@ -23,8 +23,7 @@ fn is_goal(net: &[u8], goals: &[u8], run: usize) -> bool
     goals[node] != 0
 }
 
-// Settles runs in the order of their keys until the next one arrives at a goal or its key is not below the limit, and gives that key; TOP where no labelled
-// run is left.
+// Settles runs in the order of their keys until the next one arrives at a goal, and gives its key; none where no key below the limit is left.
 pub fn search(
     net: &[u8],
     index: &[u16],
@@ -34,9 +33,9 @@ pub fn search(
     previous: &mut [u32],
     tree: &mut [u64],
     unfound: &mut [u8],
-) -> u64
+) -> Option<u64>
     requires { Sought net.now index.now ask goals.now × Room ask.runs best.old previous.old × Unused net.now ask.runs tree.old unfound.old }
-    ensures { StopsAt net.now ask ask.tolerance goals.now best.new previous.new result }
+    ensures { Stopped net.now ask ask.tolerance goals.now best.new previous.new result }
 {
     let from = ask.from;
     let limit = ask.limit;
@@ -45,9 +44,9 @@ pub fn search(
     let mut key = least(ask.runs, tree);
     while key < limit {
         if is_goal(net, goals, run_in(key)) {
-            return key;
+            return Some(key);
         }
         key = settle(net, index, ask, key, best, previous, tree, unfound);
     }
-    key
+    None
 }

@@ -4,30 +4,21 @@ ghost use Rattle.streets.specs.Bicycle.{bicycle};
 ghost use Rattle.search_routes.specs.Steps.Answered.{Question, Rooms, Unmarked, staying, Answered};
 
 use crate::trace::{count_runs, fill, route_level};
-use queue::TOP;
-use routes::Found;
+use routes::{Found, LeastRoute};
 use search_labels::{label_in, run_in};
 use search_relaxing::Ask;
 use search_rounds::explore::explore;
 
-#[derive(Clone, Copy)]
-pub enum Finding {
-    // No route is within the tolerance.
-    Nothing,
-    // The route that was written, and the least tolerance that has one.
-    Found { found: Found, tolerance: u8 },
-}
-
 // From a node to itself the empty route is within every tolerance.
-fn stay(tolerance: u8) -> Finding
+fn stay(tolerance: u8) -> LeastRoute
     ensures { result ≡ staying tolerance }
 {
-    let found = Found {
+    let route = Found {
         count: 0,
         length: 0,
         level: 1,
     };
-    Finding::Found { found, tolerance }
+    LeastRoute { route, tolerance }
 }
 
 // Writes a shortest route within the least tolerance that has one, of those asked, into the buffer from the place on, where there is one. It is the
@@ -42,31 +33,28 @@ pub fn find(
     buffer: &mut [u16],
     place: usize,
     goals: &mut [u8],
-) -> Finding
+) -> Option<LeastRoute>
     requires { Question net.now index.now ask to × Rooms ask.runs best.old previous.old buffer.old place × Unmarked net.now goals.old }
     ensures { Answered (bicycle net.now) ask.least ask.tolerance ask.from to place
         buffer.old buffer.new result }
 {
     if ask.from == to {
-        return stay(ask.least);
+        return Some(stay(ask.least));
     }
     goals[to] = 1;
-    let met = explore(net, index, ask, goals, best, previous);
+    let met = explore(net, index, ask, goals, best, previous)?;
     let key = met.key;
-    if TOP <= key {
-        return Finding::Nothing;
-    }
     let last = run_in(key);
     let count = count_runs(previous, ask.runs, last);
     let level = route_level(net, index, ask.runs, previous, last, count);
     fill(previous, ask.runs, last, count, &mut buffer[place..]);
-    let found = Found {
+    let route = Found {
         count,
         length: label_in(key),
         level,
     };
-    Finding::Found {
-        found,
+    Some(LeastRoute {
+        route,
         tolerance: met.tolerance,
-    }
+    })
 }

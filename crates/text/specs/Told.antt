@@ -1,9 +1,8 @@
--- What Read's answer tells: the paper's number and values for every case of the enum.
+-- What Read's answer tells: the paper's number and values for every case of it.
 -- Assumes nothing.
-use Rattle.std.specs.Prelude.{ℕ, ◌≡◌, List, ◌++◌, length, drop}
+use Rattle.std.specs.Prelude.{ℕ, ◌≡◌, List, ◌++◌, length, drop, Result, Ok, Err}
 use Rattle.refusals.specs.Numbers.{number_of}
-use Rattle.text.specs.declared.ReadAnswer.{ReadAnswer}
-use Rattle.text.specs.declared.ReadAnswer.TheVariants.{Refused, Kept}
+use Rattle.text.specs.declared.Refused.{Refused}
 use Rattle.text.specs.Read.{Reading, read_of, refused, kept}
 
 -- A refusal tells number and line; an acceptance tells the bytes written.
@@ -11,9 +10,9 @@ pub data ReadTold : Type 0 where
   refusal : ℕ → ℕ → ReadTold
   written : ℕ → ReadTold
 
-abbrev pub told : ReadAnswer → ReadTold
-told (Refused why at) = refusal (number_of why) at
-told (Kept count) = written count
+abbrev pub told : Result ℕ Refused → ReadTold
+told (Err why) = refusal (number_of why.refusal) why.line
+told (Ok count) = written count
 
 abbrev pub told_of : Reading → ReadTold
 told_of (refused number at) = refusal number at
@@ -25,6 +24,6 @@ output_of (refused number at) before = before
 output_of (kept bytes) before = bytes ++ drop (length bytes) before
 
 -- What Read promises for every text and every lent output.
-pub record ReadDid (text before after : List ℕ) (r : ReadAnswer) : Type 0 where
+pub record ReadDid (text before after : List ℕ) (r : Result ℕ Refused) : Type 0 where
   pub answer : told r ≡ told_of (read_of text (length before))
   pub output : after ≡ output_of (read_of text (length before)) before

@@ -5,9 +5,9 @@ pub mod read;
 
 use refusals::Refusal;
 
-// Read's answer: a refusal with its line, counted from 1, or the number of bytes kept.
-#[derive(Clone, Copy)]
-pub enum ReadAnswer {
-    Refused { refusal: Refusal, line: usize },
-    Kept(usize),
+// Why Read refuses a text, and the line that is refused, counted from 1.
+#[derive(Clone, Copy, PartialEq, Eq)]
+pub struct Refused {
+    pub refusal: Refusal,
+    pub line: usize,
 }

@@ -12,7 +12,7 @@ ghost use Rattle.text.specs.Told.{told, told_of, ReadDid};
 ghost use Rattle.text.specs.Steps.Spelled.{spelled_text};
 ghost use Rattle.text.specs.Steps.Lines.{LineDecoded, LineFault, FrameRead, SegmentJudged, LineJudged, lines_after};
 
-use crate::ReadAnswer;
+use crate::Refused;
 use digits::{Scan, decode_into, scan_line};
 use frames::decoded::head_of;
 use frames::edition::frame_bytes;
@@ -23,13 +23,6 @@ use frames::{Head, fields, sizes};
 use network::corners::{claim_legs, county_corners, town_corners};
 use network::kept::kept_bytes;
 use refusals::Refusal;
-
-// One line: a frame, with the place after the line, or its first fault.
-#[derive(Clone, Copy)]
-pub enum LineRead {
-    Frame(usize),
-    Faulty(Refusal),
-}
 
 // Reads the line at a place into the buffer, where it has as many bytes as the buffer: then its digits and its 0A stand where they must, and nothing
 // is searched for.
@@ -65,40 +58,46 @@ fn fault_of(text: &[u8], at: usize) -> Refusal
 }
 
 // Reads the line at a place as a frame of this kind and of the buffer's length.
-fn frame_line(text: &[u8], at: usize, kind: u8, frame: &mut [u8]) -> LineRead
+fn frame_line(text: &[u8], at: usize, kind: u8, frame: &mut [u8]) -> Result<usize, Refusal>
     requires { (at ≤ length text.now) × (0 < length frame.old) × (length frame.old ≤ most_bytes) }
     ensures { FrameRead text.now at kind frame.old frame.new result }
 {
     if !whole_line(text, at, frame) {
-        return LineRead::Faulty(fault_of(text, at));
+        return Err(fault_of(text, at));
     }
     if sum_of(frame) != 0 {
-        return LineRead::Faulty(Refusal::WrongCheck);
+        return Err(Refusal::WrongCheck);
     }
     if frame[fields::KIND] != kind {
-        return LineRead::Faulty(Refusal::WrongFrame);
+        return Err(Refusal::WrongFrame);
     }
-    LineRead::Frame(at + 2 * frame.len() + 1)
+    Ok(at + 2 * frame.len() + 1)
 }
 
 // Judges the frame of segment s, whose line had no fault of its own, and takes its legs where it has no fault either.
-fn judge_frame(frame: &[u8], next: usize, head: Head, s: usize, index: &mut [u16]) -> LineRead
+fn judge_frame(
+    frame: &[u8],
+    next: usize,
+    head: Head,
+    s: usize,
+    index: &mut [u16],
+) -> Result<usize, Refusal>
     requires { (framed 2 (frame_bytes head.edition) frame.now 0 ≡ 0) × HeadFits head index.old }
     ensures { SegmentJudged frame.now next head s index.old index.new result }
 {
     if head.segments <= s {
-        return LineRead::Faulty(Refusal::WrongCount);
+        return Err(Refusal::WrongCount);
     }
     if !street_ok(frame, head.edition) {
-        return LineRead::Faulty(Refusal::WrongField);
+        return Err(Refusal::WrongField);
     }
     if !ends_ok(frame, head.nodes) {
-        return LineRead::Faulty(Refusal::WrongField);
+        return Err(Refusal::WrongField);
     }
     if !claim_legs(frame, s, index) {
-        return LineRead::Faulty(Refusal::LegTaken);
+        return Err(Refusal::LegTaken);
     }
-    LineRead::Frame(next)
+    Ok(next)
 }
 
 // Judges the line of segment s, read into a buffer of a frame's length.
@@ -109,18 +108,22 @@ fn judge_line(
     s: usize,
     frame: &mut [u8],
     index: &mut [u16],
-) -> LineRead
+) -> Result<usize, Refusal>
     requires { (at ≤ length text.now) × HeadFits head index.old × (length frame.old ≡ frame_bytes head.edition) }
     ensures { LineJudged text.now at head s index.old index.new result }
 {
-    match frame_line(text, at, fields::SEGMENT_KIND, frame) {
-        LineRead::Faulty(fault) => LineRead::Faulty(fault),
-        LineRead::Frame(next) => judge_frame(frame, next, head, s, index),
-    }
+    let next = frame_line(text, at, fields::SEGMENT_KIND, frame)?;
+    judge_frame(frame, next, head, s, index)
 }
 
 // The same with a buffer of its own.
-fn segment_line(text: &[u8], at: usize, head: Head, s: usize, index: &mut [u16]) -> LineRead
+fn segment_line(
+    text: &[u8],
+    at: usize,
+    head: Head,
+    s: usize,
+    index: &mut [u16],
+) -> Result<usize, Refusal>
     requires { (at ≤ length text.now) × HeadFits head index.old }
     ensures { LineJudged text.now at head s index.old index.new result }
 {
@@ -135,7 +138,7 @@ fn judge_lines(
     start: usize,
     first: &[u8; fields::HEAD_BYTES],
     index: &mut [u16],
-) -> ReadAnswer
+) -> Result<usize, Refused>
     requires { (start ≤ length text.now) × (head_ok first.now ≡ true) × Indexed (nodes first.now) [] index.old }
     ensures { told result ≡ told_of (lines_after first.now (drop start text.now)) }
 {
@@ -146,13 +149,13 @@ fn judge_lines(
     let mut at = start;
     while at < end {
         match segment_line(text, at, head, s, index) {
-            LineRead::Faulty(fault) => {
+            Err(fault) => {
                 return ReadAnswer::Refused {
                     refusal: fault,
                     line: s + 2,
                 };
             }
-            LineRead::Frame(next) => {
+            Ok(next) => {
                 at = next;
                 s += 1;
             }
@@ -164,11 +167,15 @@ fn judge_lines(
             line: s + 2,
         };
     }
-    ReadAnswer::Kept(kept_bytes(head))
+    Ok(kept_bytes(head))
 }
 
 // The same in memory of its own: a county's.
-pub fn judge_in_county(text: &[u8], start: usize, first: &[u8; fields::HEAD_BYTES]) -> ReadAnswer
+pub fn judge_in_county(
+    text: &[u8],
+    start: usize,
+    first: &[u8; fields::HEAD_BYTES],
+) -> Result<usize, Refused>
     requires { (start ≤ length text.now) × (head_ok first.now ≡ true) }
     ensures { told result ≡ told_of (lines_after first.now (drop start text.now)) }
 {
@@ -177,7 +184,11 @@ pub fn judge_in_county(text: &[u8], start: usize, first: &[u8; fields::HEAD_BYTE
 }
 
 // The same in a town's memory, where the network is no larger.
-fn judge_segments(text: &[u8], start: usize, first: &[u8; fields::HEAD_BYTES]) -> ReadAnswer
+fn judge_segments(
+    text: &[u8],
+    start: usize,
+    first: &[u8; fields::HEAD_BYTES],
+) -> Result<usize, Refused>
     requires { (start ≤ length text.now) × (head_ok first.now ≡ true) }
     ensures { told result ≡ told_of (lines_after first.now (drop start text.now)) }
 {
@@ -190,7 +201,7 @@ fn judge_segments(text: &[u8], start: usize, first: &[u8; fields::HEAD_BYTES]) -
 }
 
 // The answer for a text and an output of `room` bytes.
-pub fn judge_text(text: &[u8], room: usize) -> ReadAnswer
+pub fn judge_text(text: &[u8], room: usize) -> Result<usize, Refused>
     ensures { told result ≡ told_of (read_of text.now room) }
 {
     if text.len() == 0 {
@@ -201,11 +212,11 @@ pub fn judge_text(text: &[u8], room: usize) -> ReadAnswer
     }
     let mut first = [0u8; fields::HEAD_BYTES];
     match frame_line(text, 0, fields::HEAD_KIND, &mut first) {
-        LineRead::Faulty(fault) => ReadAnswer::Refused {
+        Err(fault) => ReadAnswer::Refused {
             refusal: fault,
             line: 1,
         },
-        LineRead::Frame(next) => {
+        Ok(next) => {
             if !head_ok(&first) {
                 return ReadAnswer::Refused {
                     refusal: Refusal::WrongField,
@@ -241,17 +252,17 @@ fn write_frames(text: &[u8], size: usize, segments: usize, output: &mut [u8])
 }
 
 // Reads a network text into the output: the first faulty line decides, and a refusal leaves the output as it was.
-pub fn read(text: &[u8], output: &mut [u8]) -> ReadAnswer
+pub fn read(text: &[u8], output: &mut [u8]) -> Result<usize, Refused>
     ensures { ReadDid text.now output.old output.new result }
 {
     match judge_text(text, output.len()) {
         ReadAnswer::Refused { refusal, line } => ReadAnswer::Refused { refusal, line },
-        ReadAnswer::Kept(count) => {
+        Ok(count) => {
             let mut first = [0u8; fields::HEAD_BYTES];
             decode_into(text, 0, &mut first);
             let head = head_of(&first);
             write_frames(text, frame_bytes(head.edition), head.segments, output);
-            ReadAnswer::Kept(count)
+            Ok(count)
         }
     }
 }

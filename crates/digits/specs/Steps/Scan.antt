@@ -1,15 +1,14 @@
 -- What scanning a line answers, and the bytes that the digits at the front of a text spell.
 -- Assumes nothing.
-use Rattle.std.specs.Prelude.{ℕ, zero, suc, ◌+◌, ◌*◌, ◌%◌, Bool, true, ◌&&◌, ◌≡◌, List, [], ◌∷◌, length, get_or, drop}
+use Rattle.std.specs.Prelude.{ℕ, zero, suc, ◌+◌, ◌*◌, ◌%◌, Bool, true, ◌&&◌, ◌≡◌, List, [], ◌∷◌, length, get_or, drop, Option, Some, None}
 use Rattle.frames.specs.Frame.{total}
-use Rattle.digits.specs.declared.Scan.{Scan}
-use Rattle.digits.specs.declared.Scan.TheVariants.{Broken, Whole}
+use Rattle.digits.specs.declared.Scanned.{Scanned}
 use Rattle.digits.specs.Digits.{is_digit, line, digit, Line, broken}
 
 -- The answer for a line that so many bytes with this sum stood before.
-unfoldable pub scanned : ℕ → ℕ → Line → Scan
-scanned count sum broken = Broken
-scanned count sum (line bytes rest) = Whole (count + length bytes) ((sum + total bytes) % 256)
+unfoldable pub scanned : ℕ → ℕ → Line → Option Scanned
+scanned count sum broken = None
+scanned count sum (line bytes rest) = Some (record { count = count + length bytes; sum = (sum + total bytes) % 256 })
 
 -- The first n bytes that the digits of a text spell, two digits for a byte.
 unfoldable pub spelled : ℕ → List ℕ → List ℕ

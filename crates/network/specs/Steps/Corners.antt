@@ -1,6 +1,6 @@
 -- The corner index: which run leaves by which leg. Run 2s leaves by the A end of segment s, run 2s + 1 by its B end.
 -- Assumes nothing.
-use Rattle.std.specs.Prelude.{ℕ, zero, suc, ◌+◌, ◌*◌, ◌≤◌, ◌<◌, cond, ◌≡◌, ◌⊎◌, List, [], ◌∷◌, eqb, length, get_or, take, drop}
+use Rattle.std.specs.Prelude.{ℕ, zero, suc, ◌+◌, ◌*◌, ◌≤◌, ◌<◌, cond, ◌≡◌, ◌⊎◌, List, [], ◌∷◌, Option, Some, None, eqb, length, get_or, take, drop}
 use Rattle.frames.specs.Edition.{frame_bytes}
 use Rattle.frames.specs.Frame.{head_bytes}
 use Rattle.network.specs.Legs.{corner_a, corner_b, taking}
@@ -19,6 +19,11 @@ pub record Indexed (n : ℕ) (taken index : List ℕ) : Type 0 where
 -- An index with every leg free, with room for at most so many nodes.
 abbrev pub NoCorners : ℕ → List ℕ → Type 0
 NoCorners most index = (n : ℕ) → n ≤ most → Indexed n [] index
+
+-- The run that an entry tells; none where the leg is free.
+abbrev pub run_leaving : ℕ → Option ℕ
+run_leaving zero = None
+run_leaving (suc run) = Some run
 
 -- The corners of all runs of a network, the last run first.
 unfoldable pub corners_from : ℕ → ℕ → List ℕ → List ℕ → List ℕ

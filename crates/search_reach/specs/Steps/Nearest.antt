@@ -1,13 +1,11 @@
 -- What the steps of the nearest marked node promise to each other.
 -- Assumes nothing.
-use Rattle.std.specs.Prelude.{◌≡◌, Bool, true, false, not, ◌||◌, List, ℕ, ◌≤◌, ◌<◌, ltb, length}
+use Rattle.std.specs.Prelude.{◌≡◌, Bool, true, false, not, ◌||◌, List, Option, Some, None, ℕ, ◌≤◌, ◌<◌, ltb, length}
 use Rattle.routes.specs.Streets.{Streets}
 use Rattle.routes.specs.Reach.{is_marked, Nearest, NoneMarked}
 use Rattle.routes.specs.Steps.Labels.{unlabelled}
 use Rattle.routes.specs.declared.Entry.{Entry}
 use Rattle.network.specs.Network.{nodes_of}
-use Rattle.search_reach.specs.declared.nearest.Marked.{Marked}
-use Rattle.search_reach.specs.declared.nearest.Marked.TheVariants.{Nothing, Found}
 use Rattle.search_reach.specs.Steps.Arrivals.{length_to, LookedAt}
 
 -- A byte for each node.
@@ -42,7 +40,7 @@ pub record NearFound (g : Streets) (nodes t a : ℕ) (marks : List ℕ) (e : Ent
   pub nearest : Nearest g nodes t a marks e
   pub small : e.length < unlabelled
 
--- Nothing: no marked node has a route within the tolerance.
-abbrev pub Nearby : Streets → ℕ → ℕ → ℕ → List ℕ → Marked → Type 0
-Nearby g nodes t a marks Nothing = NoneMarked g nodes t a marks
-Nearby g nodes t a marks (Found e) = NearFound g nodes t a marks e
+-- None: no marked node has a route within the tolerance.
+abbrev pub Nearby : Streets → ℕ → ℕ → ℕ → List ℕ → Option Entry → Type 0
+Nearby g nodes t a marks None = NoneMarked g nodes t a marks
+Nearby g nodes t a marks (Some e) = NearFound g nodes t a marks e

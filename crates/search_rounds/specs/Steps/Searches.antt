@@ -1,6 +1,6 @@
 -- What the steps of a search promise to each other: what holds before its first round, and what a round does.
 -- Assumes nothing.
-use Rattle.std.specs.Prelude.{◌≡◌, false, List, ℕ, ◌-◌, ◌≤◌, ◌<◌, length}
+use Rattle.std.specs.Prelude.{◌≡◌, false, List, Option, Some, None, ℕ, ◌-◌, ◌≤◌, ◌<◌, length}
 use Rattle.routes.specs.Reach.{is_marked}
 use Rattle.routes.specs.Steps.Labels.{edge_of}
 use Rattle.queue.specs.Steps.Queue.{top, Queue, Empty}
@@ -72,6 +72,11 @@ abbrev pub StopsAt : List ℕ → Ask → ℕ → List ℕ → List ℕ → List
 StopsAt net ask t goals best previous key =
     Explored (run_graph net ask.runs t ask.from) (turns_back net) (goal_at net goals) best previous ask.limit key
 
+-- What it met: a run that arrives at a goal, by its key, which is below the limit; or none.
+abbrev pub Stopped : List ℕ → Ask → ℕ → List ℕ → List ℕ → List ℕ → Option ℕ → Type 0
+Stopped net ask t goals best previous (Some key) = (key < ask.limit) × StopsAt net ask t goals best previous key
+Stopped net ask t goals best previous None = (key : ℕ) × (ask.limit ≤ key) × StopsAt net ask t goals best previous key
+
 -- A search at a tolerance met no goal: its labels, which a later search has written over, were these.
 pub record NothingMet (net : List ℕ) (ask : Ask) (t : ℕ) (goals : List ℕ) : Type 0 where
   pub best : List ℕ
@@ -80,12 +85,16 @@ pub record NothingMet (net : List ℕ) (ask : Ask) (t : ℕ) (goals : List ℕ) 
   pub beyond : ask.limit ≤ key
   pub stop : StopsAt net ask t goals best previous key
 
--- The tolerances from the least to the greatest that is asked: the search has stopped at one of them, and those below it met nothing.
-pub record Meets (net : List ℕ) (ask : Ask) (goals : List ℕ) (best previous : List ℕ) (met : Met) : Type 0 where
+-- The tolerances from the least to the greatest that is asked: the search at one of them met a goal, and those below it met nothing.
+pub record MetAt (net : List ℕ) (ask : Ask) (goals : List ℕ) (best previous : List ℕ) (met : Met) : Type 0 where
   pub low : ask.least ≤ met.tolerance
   pub high : met.tolerance ≤ ask.tolerance
+  pub below_limit : met.key < ask.limit
   pub stop : StopsAt net ask met.tolerance goals best previous met.key
   -- of those below it, the greatest
   pub none_below : ask.least < met.tolerance → NothingMet net ask (met.tolerance - 1) goals
-  -- where it met nothing, it has come to the greatest
-  pub tried : ask.limit ≤ met.key → met.tolerance ≡ ask.tolerance
+
+-- None: the search at the greatest of them, which came last, met nothing.
+abbrev pub Meets : List ℕ → Ask → List ℕ → List ℕ → List ℕ → Option Met → Type 0
+Meets net ask goals best previous (Some met) = MetAt net ask goals best previous met
+Meets net ask goals best previous None = Stopped net ask ask.tolerance goals best previous None

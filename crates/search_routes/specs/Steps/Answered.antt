@@ -1,9 +1,10 @@
 -- What `find` asks, and what it answers.
 -- Assumes nothing.
-use Rattle.std.specs.Prelude.{◌≡◌, Bool, List, ℕ, ◌+◌, ◌-◌, ◌≤◌, ◌<◌, eqb, length}
+use Rattle.std.specs.Prelude.{◌≡◌, Bool, List, Option, Some, None, ℕ, ◌+◌, ◌-◌, ◌≤◌, ◌<◌, eqb, length}
 use Rattle.routes.specs.Streets.{Streets}
 use Rattle.routes.specs.Routes.{NoRoute}
 use Rattle.routes.specs.declared.Found.{Found as Route}
+use Rattle.routes.specs.declared.LeastRoute.{LeastRoute}
 use Rattle.routes.specs.Written.{Written}
 use Rattle.queue.specs.Steps.Queue.{top}
 use Rattle.network.specs.Network.{nodes_of}
@@ -11,8 +12,6 @@ use Rattle.search_labels.specs.Steps.Labels.{Room}
 use Rattle.search_relaxing.specs.declared.Ask.{Ask}
 use Rattle.search_relaxing.specs.Steps.Counted.{Ready}
 use Rattle.search_relaxing.specs.Steps.Unfound.{Unknown}
-use Rattle.search_routes.specs.declared.find.Finding.{Finding}
-use Rattle.search_routes.specs.declared.find.Finding.TheVariants.{Nothing, Found}
 
 -- A question in order: tolerances from 1 up, a node of the network to find, and no limit.
 pub record Question (net index : List ℕ) (ask : Ask) (to : ℕ) : Type 0 where
@@ -36,8 +35,8 @@ unfoldable pub arrives_at : Streets → ℕ → ℕ → Bool
 arrives_at g b r = eqb (g.finish r) b
 
 -- From a node to itself: the empty route.
-abbrev pub staying : ℕ → Finding
-staying tolerance = Found (record { count = 0; length = 0; level = 1 }) tolerance
+abbrev pub staying : ℕ → LeastRoute
+staying tolerance = record { route = record { count = 0; length = 0; level = 1 }; tolerance = tolerance }
 
 -- The least tolerance u, of those from `least` to t, that has a route: a shortest one within it stands in the buffer from the place on, and count, length
 -- and level are that route's own. Which of several shortest routes it is, is free.
@@ -47,7 +46,7 @@ pub record FirstFound (g : Streets) (least t a b place : ℕ) (before after : Li
   pub none_below : least < u → NoRoute g (u - 1) a b
   pub written : Written g u a b place before after told
 
--- Nothing: no route from a to b is within t, and the buffer is as it came.
-abbrev pub Answered : Streets → ℕ → ℕ → ℕ → ℕ → ℕ → List ℕ → List ℕ → Finding → Type 0
-Answered g least t a b place before after Nothing = (after ≡ before) × NoRoute g t a b
-Answered g least t a b place before after (Found told u) = FirstFound g least t a b place before after told u
+-- None: no route from a to b is within t, and the buffer is as it came.
+abbrev pub Answered : Streets → ℕ → ℕ → ℕ → ℕ → ℕ → List ℕ → List ℕ → Option LeastRoute → Type 0
+Answered g least t a b place before after None = (after ≡ before) × NoRoute g t a b
+Answered g least t a b place before after (Some told) = FirstFound g least t a b place before after told.route told.tolerance

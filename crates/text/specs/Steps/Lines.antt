@@ -1,6 +1,6 @@
 -- What the steps of Read promise of one line.
 -- Assumes nothing.
-use Rattle.std.specs.Prelude.{ℕ, ◌+◌, ◌*◌, Bool, true, cond, ◌≡◌, List, [], eqb, ltb, length, drop}
+use Rattle.std.specs.Prelude.{ℕ, ◌+◌, ◌*◌, Bool, true, cond, ◌≡◌, List, [], eqb, ltb, length, drop, Result, Ok, Err}
 use Rattle.refusals.specs.declared.Refusal.{Refusal}
 use Rattle.refusals.specs.Numbers.{number_of}
 use Rattle.frames.specs.declared.Head.{Head}
@@ -9,8 +9,6 @@ use Rattle.frames.specs.Frame.{edition, nodes, segments}
 use Rattle.frames.specs.Faults.{framed}
 use Rattle.network.specs.Steps.Checks.{claimed, index_fault}
 use Rattle.digits.specs.Digits.{line_of, bytes_of}
-use Rattle.text.specs.declared.read.LineRead.{LineRead}
-use Rattle.text.specs.declared.read.LineRead.TheVariants.{Frame, Faulty}
 use Rattle.text.specs.Read.{Reading, segment_lines}
 
 -- The bytes of the line at a place of a text.
@@ -18,9 +16,9 @@ abbrev pub bytes_at : List ℕ → ℕ → List ℕ
 bytes_at text at = bytes_of (line_of (drop at text))
 
 -- The answer for a line whose fault has this number: 0 is a frame, with the place after its line.
-abbrev pub Tells : ℕ → ℕ → LineRead → Type 0
-Tells number next (Frame at) = (number ≡ 0) × (at ≡ next)
-Tells number next (Faulty fault) = number ≡ number_of fault
+abbrev pub Tells : ℕ → ℕ → Result ℕ Refusal → Type 0
+Tells number next (Ok at) = (number ≡ 0) × (at ≡ next)
+Tells number next (Err fault) = number ≡ number_of fault
 
 -- A line decoded into the buffer, if it has as many bytes as the buffer.
 pub record LineDecoded (text : List ℕ) (at : ℕ) (before after : List ℕ) (r : Bool) : Type 0 where
@@ -32,7 +30,7 @@ pub record LineFault (text : List ℕ) (at : ℕ) (r : Refusal) : Type 0 where
   pub answer : (kind size : ℕ) → (length (bytes_at text at) ≡ size → ⊥) → framed kind size (bytes_at text at) 0 ≡ number_of r
 
 -- A line read as a frame of this kind and of the buffer's length, into the buffer.
-pub record FrameRead (text : List ℕ) (at kind : ℕ) (before after : List ℕ) (r : LineRead) : Type 0 where
+pub record FrameRead (text : List ℕ) (at kind : ℕ) (before after : List ℕ) (r : Result ℕ Refusal) : Type 0 where
   pub answer : Tells (framed kind (length before) (bytes_at text at) 0) (at + 2 * length before + 1) r
   pub frame : framed kind (length before) (bytes_at text at) 0 ≡ 0 → after ≡ bytes_at text at
 
@@ -45,10 +43,10 @@ abbrev pub fault_after : Head → ℕ → List ℕ → List ℕ → ℕ
 fault_after head s index f = index_fault head.edition head.nodes (ltb s head.segments) index f
 
 -- The frame of segment s judged, read from a line with this place after it; its legs are claimed where it has no fault.
-pub record SegmentJudged (f : List ℕ) (next : ℕ) (head : Head) (s : ℕ) (before after : List ℕ) (r : LineRead) : Type 0 where
+pub record SegmentJudged (f : List ℕ) (next : ℕ) (head : Head) (s : ℕ) (before after : List ℕ) (r : Result ℕ Refusal) : Type 0 where
   pub answer : Tells (fault_after head s before f) next r
   pub index : after ≡ cond (eqb (fault_after head s before f) 0) (claimed before s f) before
 
 -- The same of the line at a place of a text.
-abbrev pub LineJudged : List ℕ → ℕ → Head → ℕ → List ℕ → List ℕ → LineRead → Type 0
+abbrev pub LineJudged : List ℕ → ℕ → Head → ℕ → List ℕ → List ℕ → Result ℕ Refusal → Type 0
 LineJudged text at head s before after r = SegmentJudged (bytes_at text at) (at + 2 * frame_bytes head.edition + 1) head s before after r

@@ -25,4 +25,4 @@ returns t c =
       | then-ask-tolerance+else-met-ask w ↦ lower_nothing w.explore-met.ensures w.if-met-ask.false
       | else-ask-tolerance w ↦ λ h. absurd (omega (arith, w.if-ask-tolerance.false))
     ] in
-    met_here c.requires.2 none c.search_in_county-key.ensures
+    met_here c.requires.2 none c.search_in-key.ensures

@@ -1,7 +1,7 @@
 -- The queue is empty and nothing is known of any node, and both have room for every network: so the search may begin.
 use Rattle.network.proofs.NetworkLaws.{passed}
 use Rattle.search_relaxing.proofs.CountedLaws.{few_runs}
-use Rattle.search_rounds.proofs.explore.search_in_county.Goals as goal
+use Rattle.search_rounds.proofs.explore.search_in.Goals as goal
 
 pub search-requires : goal.search-requires
 search-requires c =
@@ -9,7 +9,7 @@ search-requires c =
       c.requires.0,
       c.requires.1,
       record {
-        empty = c.county_keys-tree.ensures _ (few_runs T);
-        unknown = c.county_unknown-unfound.ensures _ (passed c.args.net.now T.network).limits.few_nodes;
+        empty = c.no_keys-tree.ensures _ (few_runs T);
+        unknown = c.unknown-unfound.ensures _ (passed c.args.net.now T.network).limits.few_nodes;
       },
     )
