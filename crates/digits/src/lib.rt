@@ -17,20 +17,18 @@ pub struct Scanned {
 pub fn is_digit(x: u8) -> bool
     ensures { result ≡ is_digit x }
 {
-    ((48 <= x) & (x <= 57)) | ((65 <= x) & (x <= 70))
+    matches!(x, b'0'..=b'9' | b'A'..=b'F')
 }
 
 // The value of a digit, 0 for what is none.
 pub fn digit_of(x: u8) -> u8
     ensures { (result ≡ digit x) × (result < 16) }
 {
-    if (48 <= x) & (x <= 57) {
-        return x - 48;
+    match x {
+        b'0'..=b'9' => x - b'0',
+        b'A'..=b'F' => x - b'A' + 10,
+        _ => 0,
     }
-    if (65 <= x) & (x <= 70) {
-        return x - 55;
-    }
-    0
 }
 
 // The byte of two digits' values. One number holds both, which the compiler can load at once where they stand side by side; in 4097 times that
@@ -48,24 +46,16 @@ pub fn scan_line(text: &[u8], at: usize) -> Option<Scanned>
     requires { at ≤ length text.now }
     ensures { result ≡ scanned 0 0 (line_of (drop at text.now)) }
 {
-    let mut i = at;
     let mut count: usize = 0;
     let mut sum: usize = 0;
-    while i < text.len() {
-        let x = text[i];
-        if x == 10 {
-            return Some(Scanned { count, sum });
-        }
-        if text.len() - i < 2 {
-            return None;
-        }
-        let y = text[i + 1];
-        if is_digit(x) & is_digit(y) {
-            sum = (sum + byte_of(digit_of(x), digit_of(y)) as usize) % 256;
-            count += 1;
-            i += 2;
-        } else {
-            return None;
+    for pair in text[at..].chunks(2) {
+        match pair {
+            [10, ..] => return Some(Scanned { count, sum }),
+            [x, y] if is_digit(*x) & is_digit(*y) => {
+                sum = (sum + byte_of(digit_of(*x), digit_of(*y)) as usize) % 256;
+                count += 1;
+            }
+            _ => return None,
         }
     }
     None
@@ -78,12 +68,9 @@ fn values_of(text: &[u8], at: usize, values: &mut [u8]) -> bool
     ensures { Valued (length values.old) (drop at text.now) values.new result }
 {
     let mut good = true;
-    let mut k: usize = 0;
-    while k < values.len() {
-        let x = text[at + k];
-        values[k] = digit_of(x);
-        good = good & is_digit(x);
-        k += 1;
+    for (value, x) in values.iter_mut().zip(&text[at..]) {
+        *value = digit_of(*x);
+        good &= is_digit(*x);
     }
     good
 }
@@ -93,10 +80,8 @@ fn join_values(values: &[u8], bytes: &mut [u8])
     requires { (length values.now ≡ 2 * length bytes.old) × ((i : ℕ) → get_or values.now i 0 < 16) }
     ensures { bytes.new ≡ paired (length bytes.old) values.now }
 {
-    let mut k: usize = 0;
-    while k < bytes.len() {
-        bytes[k] = byte_of(values[2 * k], values[2 * k + 1]);
-        k += 1;
+    for (byte, pair) in bytes.iter_mut().zip(values.chunks_exact(2)) {
+        *byte = byte_of(pair[0], pair[1]);
     }
 }
 

@@ -22,10 +22,10 @@ pub fn free_corners<const CORNERS: usize>() -> [u16; CORNERS]
 pub fn run_leaving(entry: u16) -> Option<usize>
     ensures { result ≡ run_leaving entry }
 {
-    if entry == 0 {
-        return None;
+    match entry {
+        0 => None,
+        next => Some(usize::from(next - 1)),
     }
-    Some((entry - 1) as usize)
 }
 
 // Takes both legs of segment s where they are free and not one leg; else it leaves the index as it was.

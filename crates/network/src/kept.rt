@@ -1,11 +1,11 @@
 // Test 8: bytes that Read could keep.
-ghost use Rattle.std.specs.Prelude.{◌+◌, ◌*◌, ◌<◌, ◌≡◌, [], length, drop};
+ghost use Rattle.std.specs.Prelude.{◌+◌, ◌*◌, ◌/◌, ◌<◌, ◌≡◌, [], length, drop};
 ghost use Rattle.frames.specs.Edition.{frame_bytes};
 ghost use Rattle.frames.specs.Frame.{head_bytes};
 ghost use Rattle.frames.specs.Steps.Sizes.{Limited};
 ghost use Rattle.network.specs.Network.{is_network};
 ghost use Rattle.network.specs.Steps.Corners.{Indexed};
-ghost use Rattle.network.specs.Steps.Checks.{HeadFits, Awaits, FramesChecked, Checked, SegmentChecked, is_county};
+ghost use Rattle.network.specs.Steps.Checks.{HeadFits, FewNodes, Awaits, FramesChecked, Checked, SegmentChecked, is_county};
 
 use crate::corners::{COUNTY_CORNERS, TOWN_CORNERS, claim_legs, free_corners};
 use frames::decoded::head_of;
@@ -46,15 +46,11 @@ fn frames_ok(net: &[u8], head: Head, index: &mut [u16]) -> bool
     ensures { FramesChecked head (drop head_bytes net.now) index.new result }
 {
     let size = frame_bytes(head.edition);
-    let segments = head.segments;
-    let mut s: usize = 0;
-    let mut at: usize = fields::HEAD_BYTES;
-    while s < segments {
+    for s in 0..head.segments {
+        let at = fields::HEAD_BYTES + size * s;
         if !segment_ok(&net[at..at + size], head, s, index) {
             return false;
         }
-        s += 1;
-        at += size;
     }
     true
 }
@@ -93,12 +89,22 @@ pub fn is_county(net: &[u8]) -> bool
     !is_town(head.nodes, head.segments)
 }
 
-// Whether the bytes are a network that Read could keep, tested in memory of its own: a county's.
+// Whether the bytes are a network that Read could keep, tested in memory of its own for so many corners. It is never inlined, so that a town takes no
+// stack for a county.
+#[inline(never)]
+fn is_kept_in<const CORNERS: usize>(net: &[u8]) -> bool
+    requires { FewNodes (CORNERS / 8) net.now }
+    ensures { result ≡ is_network net.now }
+{
+    let mut index = free_corners::<CORNERS>();
+    is_network(net, &mut index)
+}
+
+// The same in a county's memory.
 pub fn is_kept_in_county(net: &[u8]) -> bool
     ensures { result ≡ is_network net.now }
 {
-    let mut index = free_corners::<COUNTY_CORNERS>();
-    is_network(net, &mut index)
+    is_kept_in::<COUNTY_CORNERS>(net)
 }
 
 // The same in a town's memory, where the network is no larger.
@@ -108,6 +114,5 @@ pub fn is_kept(net: &[u8]) -> bool
     if is_county(net) {
         return is_kept_in_county(net);
     }
-    let mut index = free_corners::<TOWN_CORNERS>();
-    is_network(net, &mut index)
+    is_kept_in::<TOWN_CORNERS>(net)
 }

@@ -1,5 +1,5 @@
 // Read: a first pass over the text finds the first fault and writes nothing; a second pass writes the bytes.
-ghost use Rattle.std.specs.Prelude.{◌+◌, ◌*◌, ◌≤◌, ◌<◌, ◌≡◌, true, [], ◌++◌, length, drop};
+ghost use Rattle.std.specs.Prelude.{◌+◌, ◌*◌, ◌/◌, ◌≤◌, ◌<◌, ◌≡◌, true, [], ◌++◌, length, drop};
 ghost use Rattle.frames.specs.Edition.{frame_bytes};
 ghost use Rattle.frames.specs.Steps.Sizes.{most_bytes};
 ghost use Rattle.frames.specs.Frame.{head_bytes, nodes};
@@ -10,17 +10,17 @@ ghost use Rattle.network.specs.Steps.Checks.{HeadFits};
 ghost use Rattle.text.specs.Read.{read_of};
 ghost use Rattle.text.specs.Told.{told, told_of, ReadDid};
 ghost use Rattle.text.specs.Steps.Spelled.{spelled_text};
-ghost use Rattle.text.specs.Steps.Lines.{LineDecoded, LineFault, FrameRead, SegmentJudged, LineJudged, lines_after};
+ghost use Rattle.text.specs.Steps.Lines.{LineDecoded, LineFault, FrameRead, SegmentJudged, LineJudged, HeadJudged, lines_after};
 
 use crate::Refused;
-use digits::{Scan, decode_into, scan_line};
+use digits::{Scanned, decode_into, scan_line};
 use frames::decoded::head_of;
 use frames::edition::frame_bytes;
 use frames::frame::sum_of;
 use frames::ranges::{ends_ok, head_ok, street_ok};
 use frames::sizes::is_town;
 use frames::{Head, fields, sizes};
-use network::corners::{claim_legs, county_corners, town_corners};
+use network::corners::{COUNTY_CORNERS, TOWN_CORNERS, claim_legs, free_corners};
 use network::kept::kept_bytes;
 use refusals::Refusal;
 
@@ -45,16 +45,11 @@ fn fault_of(text: &[u8], at: usize) -> Refusal
     requires { at ≤ length text.now }
     ensures { LineFault text.now at result }
 {
-    let Scan::Whole { count, sum } = scan_line(text, at) else {
-        return Refusal::NotDigits;
-    };
-    if count == 0 {
-        return Refusal::NotDigits;
+    match scan_line(text, at) {
+        None | Some(Scanned { count: 0, .. }) => Refusal::NotDigits,
+        Some(Scanned { sum: 0, .. }) => Refusal::WrongFrame,
+        Some(_) => Refusal::WrongCheck,
     }
-    if sum != 0 {
-        return Refusal::WrongCheck;
-    }
-    Refusal::WrongFrame
 }
 
 // Reads the line at a place as a frame of this kind and of the buffer's length.
@@ -132,6 +127,13 @@ fn segment_line(
     judge_line(text, at, head, s, &mut frame[..size], index)
 }
 
+// A refusal of the line with this number.
+fn refused_at(line: usize, refusal: Refusal) -> Refused
+    ensures { (result.refusal ≡ refusal) × (result.line ≡ line) }
+{
+    Refused { refusal, line }
+}
+
 // The answer for the lines after a good head, from a place of the text on, with an index that has room for the head's nodes.
 fn judge_lines(
     text: &[u8],
@@ -143,34 +145,33 @@ fn judge_lines(
     ensures { told result ≡ told_of (lines_after first.now (drop start text.now)) }
 {
     let head = head_of(first);
-    let segments = head.segments;
-    let end = text.len();
     let mut s: usize = 0;
     let mut at = start;
-    while at < end {
-        match segment_line(text, at, head, s, index) {
-            Err(fault) => {
-                return ReadAnswer::Refused {
-                    refusal: fault,
-                    line: s + 2,
-                };
-            }
-            Ok(next) => {
-                at = next;
-                s += 1;
-            }
-        }
+    while at < text.len() {
+        at = segment_line(text, at, head, s, index).map_err(|refusal| refused_at(s + 2, refusal))?;
+        s += 1;
     }
-    if s < segments {
-        return ReadAnswer::Refused {
-            refusal: Refusal::WrongCount,
-            line: s + 2,
-        };
+    if s < head.segments {
+        return Err(refused_at(s + 2, Refusal::WrongCount));
     }
     Ok(kept_bytes(head))
 }
 
-// The same in memory of its own: a county's.
+// The same in memory of its own for so many corners. It is never inlined, so that a town takes no stack for a county.
+#[inline(never)]
+fn judge_in<const CORNERS: usize>(
+    text: &[u8],
+    start: usize,
+    first: &[u8; fields::HEAD_BYTES],
+) -> Result<usize, Refused>
+    requires { (start ≤ length text.now) × (head_ok first.now ≡ true) × (nodes first.now ≤ CORNERS / 8) }
+    ensures { told result ≡ told_of (lines_after first.now (drop start text.now)) }
+{
+    let mut index = free_corners::<CORNERS>();
+    judge_lines(text, start, first, &mut index)
+}
+
+// The same in a county's memory.
 pub fn judge_in_county(
     text: &[u8],
     start: usize,
@@ -179,8 +180,7 @@ pub fn judge_in_county(
     requires { (start ≤ length text.now) × (head_ok first.now ≡ true) }
     ensures { told result ≡ told_of (lines_after first.now (drop start text.now)) }
 {
-    let mut index = county_corners();
-    judge_lines(text, start, first, &mut index)
+    judge_in::<COUNTY_CORNERS>(text, start, first)
 }
 
 // The same in a town's memory, where the network is no larger.
@@ -193,45 +193,41 @@ fn judge_segments(
     ensures { told result ≡ told_of (lines_after first.now (drop start text.now)) }
 {
     let head = head_of(first);
-    if !is_town(head.nodes, head.segments) {
-        return judge_in_county(text, start, first);
+    if is_town(head.nodes, head.segments) {
+        judge_in::<TOWN_CORNERS>(text, start, first)
+    } else {
+        judge_in_county(text, start, first)
     }
-    let mut index = town_corners();
-    judge_lines(text, start, first, &mut index)
+}
+
+// Judges the head's line, read into `first`, and the output's room. Where it finds no fault, the lines from the place on that it gives decide.
+fn judge_head(
+    text: &[u8],
+    room: usize,
+    first: &mut [u8; fields::HEAD_BYTES],
+) -> Result<usize, Refusal>
+    ensures { HeadJudged text.now room first.new result }
+{
+    if text.is_empty() {
+        return Err(Refusal::WrongFrame);
+    }
+    let next = frame_line(text, 0, fields::HEAD_KIND, first)?;
+    if !head_ok(first) {
+        return Err(Refusal::WrongField);
+    }
+    if room < kept_bytes(head_of(first)) {
+        return Err(Refusal::OutputTooShort);
+    }
+    Ok(next)
 }
 
 // The answer for a text and an output of `room` bytes.
 pub fn judge_text(text: &[u8], room: usize) -> Result<usize, Refused>
     ensures { told result ≡ told_of (read_of text.now room) }
 {
-    if text.len() == 0 {
-        return ReadAnswer::Refused {
-            refusal: Refusal::WrongFrame,
-            line: 1,
-        };
-    }
-    let mut first = [0u8; fields::HEAD_BYTES];
-    match frame_line(text, 0, fields::HEAD_KIND, &mut first) {
-        Err(fault) => ReadAnswer::Refused {
-            refusal: fault,
-            line: 1,
-        },
-        Ok(next) => {
-            if !head_ok(&first) {
-                return ReadAnswer::Refused {
-                    refusal: Refusal::WrongField,
-                    line: 1,
-                };
-            }
-            if room < kept_bytes(head_of(&first)) {
-                return ReadAnswer::Refused {
-                    refusal: Refusal::OutputTooShort,
-                    line: 1,
-                };
-            }
-            judge_segments(text, next, &first)
-        }
-    }
+    let mut first = [0; fields::HEAD_BYTES];
+    let next = judge_head(text, room, &mut first).map_err(|refusal| refused_at(1, refusal))?;
+    judge_segments(text, next, &first)
 }
 
 // Writes the bytes of a text that was judged good: its head and so many lines of frames of this size.
@@ -240,14 +236,10 @@ fn write_frames(text: &[u8], size: usize, segments: usize, output: &mut [u8])
     ensures { output.new ≡ spelled_text size segments text.now ++ drop (head_bytes + size * segments) output.old }
 {
     decode_into(text, 0, &mut output[0..fields::HEAD_BYTES]);
-    let mut s: usize = 0;
-    let mut at: usize = fields::HEAD_LINE;
-    let mut out: usize = fields::HEAD_BYTES;
-    while s < segments {
+    for s in 0..segments {
+        let at = fields::HEAD_LINE + (2 * size + 1) * s;
+        let out = fields::HEAD_BYTES + size * s;
         decode_into(text, at, &mut output[out..out + size]);
-        s += 1;
-        at += 2 * size + 1;
-        out += size;
     }
 }
 
@@ -255,14 +247,10 @@ fn write_frames(text: &[u8], size: usize, segments: usize, output: &mut [u8])
 pub fn read(text: &[u8], output: &mut [u8]) -> Result<usize, Refused>
     ensures { ReadDid text.now output.old output.new result }
 {
-    match judge_text(text, output.len()) {
-        ReadAnswer::Refused { refusal, line } => ReadAnswer::Refused { refusal, line },
-        Ok(count) => {
-            let mut first = [0u8; fields::HEAD_BYTES];
-            decode_into(text, 0, &mut first);
-            let head = head_of(&first);
-            write_frames(text, frame_bytes(head.edition), head.segments, output);
-            Ok(count)
-        }
-    }
+    let count = judge_text(text, output.len())?;
+    let mut first = [0; fields::HEAD_BYTES];
+    decode_into(text, 0, &mut first);
+    let head = head_of(&first);
+    write_frames(text, frame_bytes(head.edition), head.segments, output);
+    Ok(count)
 }

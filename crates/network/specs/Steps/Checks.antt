@@ -50,6 +50,10 @@ pub record FramesChecked (head : Head) (bytes after : List ℕ) (r : Bool) : Typ
   pub answer : r ≡ frames_ok head.edition head.nodes head.segments [] bytes
   pub index : r ≡ true → Indexed head.nodes (corners_from head.edition head.segments [] bytes) after
 
+-- A head in order says no more than so many nodes.
+pub record FewNodes (most : ℕ) (net : List ℕ) : Type 0 where
+  pub few : head_bytes ≤ length net → head_ok (head_of net) ≡ true → nodes_of net ≤ most
+
 -- An index with every leg free, and room for the nodes that a head in order says.
 pub record Awaits (net index : List ℕ) : Type 0 where
   pub free : head_bytes ≤ length net → head_ok (head_of net) ≡ true → Indexed (nodes_of net) [] index

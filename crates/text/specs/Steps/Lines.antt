@@ -1,15 +1,16 @@
 -- What the steps of Read promise of one line.
 -- Assumes nothing.
-use Rattle.std.specs.Prelude.{ℕ, ◌+◌, ◌*◌, Bool, true, cond, ◌≡◌, List, [], eqb, ltb, length, drop, Result, Ok, Err}
+use Rattle.std.specs.Prelude.{ℕ, ◌+◌, ◌*◌, ◌≤◌, Bool, true, cond, ◌≡◌, List, [], eqb, ltb, length, drop, Result, Ok, Err}
 use Rattle.refusals.specs.declared.Refusal.{Refusal}
 use Rattle.refusals.specs.Numbers.{number_of}
 use Rattle.frames.specs.declared.Head.{Head}
 use Rattle.frames.specs.Edition.{frame_bytes}
 use Rattle.frames.specs.Frame.{edition, nodes, segments}
+use Rattle.frames.specs.Ranges.{head_ok}
 use Rattle.frames.specs.Faults.{framed}
 use Rattle.network.specs.Steps.Checks.{claimed, index_fault}
 use Rattle.digits.specs.Digits.{line_of, bytes_of}
-use Rattle.text.specs.Read.{Reading, segment_lines}
+use Rattle.text.specs.Read.{Reading, refused, segment_lines, read_of}
 
 -- The bytes of the line at a place of a text.
 abbrev pub bytes_at : List ℕ → ℕ → List ℕ
@@ -37,6 +38,11 @@ pub record FrameRead (text : List ℕ) (at kind : ℕ) (before after : List ℕ)
 -- The lines after a good head.
 abbrev pub lines_after : List ℕ → List ℕ → Reading
 lines_after h text = segment_lines (edition h) (nodes h) (segments h) 2 [] h text
+
+-- Line 1 judged, and the room for the network that its head says: a fault decides, else the lines after the head do.
+abbrev pub HeadJudged : List ℕ → ℕ → List ℕ → Result ℕ Refusal → Type 0
+HeadJudged text room first (Ok next) = (next ≤ length text) × (head_ok first ≡ true) × (read_of text room ≡ lines_after first (drop next text))
+HeadJudged text room first (Err fault) = read_of text room ≡ refused (number_of fault) 1
 
 -- The fault of the line of segment s, after this head, by the corner index.
 abbrev pub fault_after : Head → ℕ → List ℕ → List ℕ → ℕ
