@@ -1,6 +1,5 @@
 -- The loop is the climb of ../Rise.antt: the invariant is its record, and each way out of the loop is one of its lemmas.
 use native.Mathlib.Omega.{arith}
-use lib.ListN.{length-set}
 use Rattle.queue.proofs.Climb.{climb_end, climb_put}
 use Rattle.queue.proofs.Rise.{rise_start, rise_more, rise_stop}
 use Rattle.queue.proofs.put.Goals as goal
@@ -8,14 +7,6 @@ use Rattle.queue.proofs.put.Goals as goal
 pub loop-i-init : goal.loop-i-init
 loop-i-init c =
     rise_start c.requires.0 c.requires.1 c.requires.2
-
-pub bounds-tree-i-in-loop-i : goal.bounds-tree-i-in-loop-i
-bounds-tree-i-in-loop-i c =
-    omega (arith, c.loop-i.invariant.climb.to, c.loop-i.invariant.climb.long)
-
-pub shape_of-tree-then-winner-tree : goal.shape_of-tree-then-winner-tree
-shape_of-tree-then-winner-tree c =
-    simp length-set at c.loop-i.invariant.climb.same
 
 pub returns-then-winner-tree : goal.returns-then-winner-tree
 returns-then-winner-tree c =
@@ -25,10 +16,6 @@ returns-then-winner-tree c =
 pub loop-i-preserved : goal.loop-i-preserved
 loop-i-preserved c =
     rise_more c.loop-i.invariant (omega (arith, c.loop-i-test.true)) (omega (arith, c.if-winner-tree.false))
-
-pub shape_of-tree : goal.shape_of-tree
-shape_of-tree c =
-    simp length-set at c.loop-i.invariant.climb.same
 
 pub returns : goal.returns
 returns c =

@@ -1,7 +1,6 @@
 -- The climb of ../Climb.antt with `top` for the key, to the root.
 use native.Mathlib.Nat.{le_refl}
 use native.Mathlib.Omega.{arith}
-use lib.ListN.{length-set}
 use Rattle.queue.proofs.Climb.{climb_start, of_sibling, climb_more, climb_end, climb_put}
 use Rattle.queue.proofs.remove.Goals as goal
 
@@ -9,18 +8,10 @@ pub loop-node-init : goal.loop-node-init
 loop-node-init c =
     climb_start c.requires.0 c.requires.1 (le_refl _)
 
-pub bounds-tree-sibling : goal.bounds-tree-sibling
-bounds-tree-sibling c =
-    omega (arith, c.sibling.ensures, c.loop-node.invariant.to, c.loop-node.invariant.long)
-
 pub loop-node-preserved : goal.loop-node-preserved
 loop-node-preserved c =
     let i = c.loop-node.invariant in
-    climb_more i (omega (arith, c.loop-node-test.true)) (of_sibling i c.sibling.ensures c.greater-winner.ensures)
-
-pub shape_of-tree : goal.shape_of-tree
-shape_of-tree c =
-    simp length-set at c.loop-node.invariant.same
+    climb_more i (omega (arith, c.loop-node-test.true)) (of_sibling i c.sibling.ensures c.max-winner.ensures)
 
 pub returns : goal.returns
 returns c =
