@@ -1,11 +1,10 @@
 -- Document 01, "Starred and plain examples": program levels prints for each segment its number, level and measure, decimal, one space between, each line
 -- ended by byte 0A, no header; for a refusal one such line: "refused", number, line.
 -- Assumes nothing.
-use Rattle.std.specs.Prelude.{ℕ, zero, suc, ◌+◌, ◌≤◌, ◌≡◌, List, [], ◌∷◌, ◌++◌, length}
+use Rattle.std.specs.Prelude.{ℕ, zero, suc, ◌+◌, List, [], ◌∷◌, ◌++◌}
 use Rattle.frames.specs.Edition.{most_kept}
 use Rattle.text.specs.Read.{Reading, read_of, refused, kept}
 use Rattle.network.specs.Network.{segments_of}
-use Rattle.lists.specs.Placed.{placed}
 use Rattle.text.specs.Samples.{characters}
 use Rattle.streets.specs.Bicycle.{segment_grade}
 use Rattle.printing.specs.Output.{decimal}
@@ -40,11 +39,6 @@ abbrev pub levels_told : Reading → List ℕ
 levels_told (refused number at) = refused_line number at
 levels_told (kept net) = level_lines net 0 (segments_of net)
 
+-- What program levels prints of a text.
 unfoldable pub levels_of : List ℕ → List ℕ
 levels_of text = levels_told (read_of text levels_room)
-
--- What program levels prints of a text is put at the front of a lent slice: so many bytes.
-pub record PrintsLevels (text before after : List ℕ) (count : ℕ) : Type 0 where
-  pub text_printed : after ≡ placed 0 (levels_of text) before
-  pub count_printed : count ≡ length (levels_of text)
-  pub fits : count ≤ length after

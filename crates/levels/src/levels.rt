@@ -1,72 +1,59 @@
 // What program levels prints of a text.
-ghost use Rattle.std.specs.Prelude.{◌≡◌, true, [], ◌∷◌, ◌++◌, ◌+◌, ◌≤◌, length};
+ghost use Rattle.std.specs.Prelude.{◌≡◌, true, [], ◌++◌, ◌+◌, ◌≤◌, length};
 ghost use Rattle.network.specs.Network.{segments_of, is_network};
 ghost use Rattle.refusals.specs.Numbers.{number_of};
 ghost use Rattle.streets.specs.Steps.Places.{SegmentOf};
-ghost use Rattle.printing.specs.Steps.Wrote.{Wrote};
-ghost use Rattle.levels.specs.Levels.{in_decimal, level_line, level_lines, refused_line, levels_room, PrintsLevels};
+ghost use Rattle.arrayvec.specs.ArrayString.{array_string_len};
+ghost use Rattle.levels.specs.Levels.{level_line, level_lines, refused_line, levels_room, levels_of};
 
 use frames::edition;
-use printing::{put_byte, put_bytes, put_number};
-use refusals::{Refusal, number_of};
+use printing::{Page, put_field};
+use refusals::Refusal;
+use splicereel::read::read;
 use streets::runs::{segment_grade, segments_of};
-use text::ReadAnswer;
-
-// A number in decimal, and one byte after it.
-fn put_field(n: usize, byte: u8, place: usize, out: &mut [u8]) -> usize
-    requires { place + 21 ≤ length out.old }
-    ensures { Wrote place (in_decimal n ++ (byte ∷ [])) out.old out.new result }
-{
-    let next = put_number(n, place, out);
-    put_byte(byte, next, out)
-}
+use text::Refused;
 
 // One line: a segment's number, level and measure.
-fn put_level(net: &[u8], segment: usize, place: usize, out: &mut [u8]) -> usize
-    requires { SegmentOf net.now segment × (place + 63 ≤ length out.old) }
-    ensures { Wrote place (level_line net.now segment) out.old out.new result }
+fn put_level(net: &[u8], segment: usize, page: &mut Page)
+    requires { SegmentOf net.now segment × (array_string_len page.old + 63 ≤ 65536) }
+    ensures { page.new.bytes ≡ page.old.bytes ++ level_line net.now segment }
 {
     let grade = segment_grade(net, segment);
-    let after = put_field(segment, b' ', place, out);
-    let after_level = put_field(grade.level as usize, b' ', after, out);
-    put_field(grade.measure as usize, b'\n', after_level, out)
+    put_field(segment, ' ', page);
+    put_field(usize::from(grade.level), ' ', page);
+    put_field(usize::from(grade.measure), '\n', page);
 }
 
 // A line for each segment of a network.
-fn put_levels(net: &[u8], out: &mut [u8]) -> usize
-    requires { (is_network net.now ≡ true) × (65536 ≤ length out.old) }
-    ensures wrote { Wrote 0 (level_lines net.now 0 (segments_of net.now)) out.old out.new result }
-    ensures upper_bound { result ≤ 65536 }
+fn put_levels(net: &[u8], page: &mut Page)
+    requires { (is_network net.now ≡ true) × (page.old.bytes ≡ []) }
+    ensures { page.new.bytes ≡ level_lines net.now 0 (segments_of net.now) }
 {
-    let segments = segments_of(net);
-    let mut s: usize = 0;
-    let mut place: usize = 0;
-    while s < segments {
-        place = put_level(net, s, place, out);
-        s += 1;
+    for segment in 0..segments_of(net) {
+        put_level(net, segment, page);
     }
-    place
 }
 
-fn put_refusal(refusal: Refusal, line: usize, out: &mut [u8]) -> usize
-    requires { 65536 ≤ length out.old }
-    ensures wrote { Wrote 0 (refused_line (number_of refusal) line) out.old out.new result }
-    ensures upper_bound { result ≤ 65536 }
+fn put_refusal(refusal: Refusal, line: usize, page: &mut Page)
+    requires { page.old.bytes ≡ [] }
+    ensures { page.new.bytes ≡ refused_line (number_of refusal) line }
 {
-    let after = put_bytes(b"refused ", 0, out);
-    let after_number = put_field(number_of(refusal) as usize, b' ', after, out);
-    put_field(line, b'\n', after_number, out)
+    page.push_str("refused ");
+    put_field(usize::from(u8::from(refusal)), ' ', page);
+    put_field(line, '\n', page);
 }
 
-// A line for each segment of the text's network, or one line for its refusal; so many bytes of the output.
-pub fn levels(text: &[u8], out: &mut [u8; 65536]) -> usize
-    ensures { PrintsLevels text.now out.old out.new result }
+// A line for each segment of the text's network, or one line for its refusal.
+pub fn levels(text: &[u8]) -> Page
+    ensures { result.bytes ≡ levels_of text.now }
 {
     let mut net = room();
-    match splicereel::read::read(text, &mut net) {
-        ReadAnswer::Refused { refusal, line } => put_refusal(refusal, line, out),
-        ReadAnswer::Kept(count) => put_levels(&net[..count], out),
+    let mut page = Page::new();
+    match read(text, &mut net) {
+        Err(Refused { refusal, line }) => put_refusal(refusal, line, &mut page),
+        Ok(count) => put_levels(&net[..count], &mut page),
     }
+    page
 }
 
 // Bytes in which every network fits.

@@ -9,7 +9,6 @@ use std::io;
 fn main(rt: HostRuntime) -> io::Result<()> {
     let mut text = [0u8; 65536];
     let count = input::read_full(&mut rt.stdin(), &mut text);
-    let mut out = [0u8; 65536];
-    let printed = levels::levels(&text[..count], &mut out);
-    rt.write_all(&out[..printed])
+    let page = levels::levels(&text[..count]);
+    print!(rt; "{page}")
 }
