@@ -1,4 +1,4 @@
--- The beginning. All labels are cleared one after the other. Then the eight entries of the start are taken in turn: each run is blank, or it is a source
+-- The beginning. First no run has a label. Then the eight entries of the start are taken in turn: each run is blank, or it is a source
 -- with its first label and its place in the queue; and every source at an entry already passed is such. A source leaves the start, so it is at one
 -- of the eight: after the last exactly the sources are labelled and queued. Nothing is settled yet, so that no edge has to be kept.
 -- Assumes nothing.
@@ -21,20 +21,6 @@ use Rattle.search_labels.specs.Steps.Labels.{Cleared, LabelWritten}
 use Rattle.search_labels.specs.Steps.Begin.{NoneEarlier, Seed, idle, first_label, Begun, first}
 use Rattle.search_labels.specs.Steps.Queued.{none_spent, Queued}
 use Rattle.search_labels.specs.Steps.Search.{Fair, Settled}
-
--- ---- no labels
-pub cleared_none : (best : List ℕ) → Cleared best 0
-cleared_none best = record { none = λ r l. absurd (not-suc-le-zero l) }
-
-pub cleared_more : {best : List ℕ} {i : ℕ} → Cleared best i → i < length best → Cleared (set best i unlabelled) (i + 1)
-cleared_more {best} {i} C l =
-    record {
-      none = λ r k.
-          ⊎_elim
-          (λ (e : r ≡ i). rw e (get_or-set_same best i unlabelled 0 l))
-          (λ (e : r < i). get_or-set_other best i r unlabelled 0 (omega arith) ∙ C.none r e)
-          (last_or_below (rw add-one at k));
-    }
 
 -- ---- the sources
 -- r is a source, with its first label, no run before it, and its place in the queue

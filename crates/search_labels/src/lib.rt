@@ -10,7 +10,7 @@ ghost use Rattle.search_labels.specs.Steps.Labels.{Cleared, Labellable, LabelWri
 use queue::put;
 
 // No label, and no run before.
-pub const NONE: u32 = 4294967295;
+pub const NONE: u32 = u32::MAX;
 
 // A run's key in the queue: first by label, then by its number. SPAN is above every run's number.
 const SPAN: u64 = 65536;
@@ -42,11 +42,7 @@ pub fn clear_labels(n: usize, best: &mut [u32])
     requires { n ≤ length best.old }
     ensures { Cleared best.new n }
 {
-    let mut r = 0;
-    while r < n {
-        best[r] = NONE;
-        r += 1;
-    }
+    best[..n].fill(NONE);
 }
 
 // Gives a run its label and the run before it, and queues it. It must not be queued yet with a lesser key.
