@@ -4,6 +4,7 @@ ghost use Rattle.search_labels.specs.Steps.Labels.{Room};
 ghost use Rattle.search_relaxing.specs.Steps.Counted.{Ready};
 ghost use Rattle.search_rounds.specs.Steps.Searches.{Seedable, Seeds, Begins};
 
+use network::corners::run_leaving;
 use search_labels::{NONE, clear_labels, write_label};
 use search_relaxing::Ask;
 use search_relaxing::usable::is_usable;
@@ -22,10 +23,9 @@ fn begin_at(
     ensures { Seeds net.now ask entry best.old previous.old tree.old
         best.new previous.new tree.new }
 {
-    if entry == 0 {
+    let Some(run) = run_leaving(entry) else {
         return;
-    }
-    let run = (entry - 1) as usize;
+    };
     if is_usable(net, ask.tolerance, run) {
         let label = feet_of(net, run) as u32;
         write_label(ask.runs, run, label, NONE, best, previous, tree);
@@ -45,9 +45,8 @@ pub fn begin(
     ensures { Begins net.now ask best.new previous.new tree.new }
 {
     clear_labels(ask.runs, best);
-    let mut leg = 0;
-    while leg < 8 {
-        begin_at(net, ask, index[ask.from * 8 + leg], best, previous, tree);
-        leg += 1;
+    let first = ask.from * 8;
+    for entry in &index[first..first + 8] {
+        begin_at(net, ask, *entry, best, previous, tree);
     }
 }

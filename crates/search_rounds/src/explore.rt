@@ -1,9 +1,8 @@
 // The one exploration behind every question: goals are marked nodes, none of them, one or many, and a limit stands for the greatest length. Here are the
 // memory of a search, a queue and a number for each node, and the tolerances that it goes through.
 ghost use Rattle.std.specs.Prelude.{◌/◌, ◌≤◌};
-ghost use Rattle.network.specs.Network.{nodes_of};
 ghost use Rattle.search_labels.specs.Steps.Labels.{Room};
-ghost use Rattle.search_rounds.specs.Steps.Searches.{NoKeys, AllUnknown, Sought, Stopped, Meets};
+ghost use Rattle.search_rounds.specs.Steps.Searches.{NoKeys, AllUnknown, Enough, Sought, Stopped, Meets};
 
 use crate::search::search;
 use frames::sizes;
@@ -18,6 +17,7 @@ pub const COUNTY_KEYS: usize = 4 * sizes::COUNTY;
 
 // An empty queue, of two elements for each run.
 fn no_keys<const KEYS: usize>() -> [u64; KEYS]
+    requires { 2 ≤ KEYS }
     ensures { NoKeys (KEYS / 2) result }
 {
     [0; KEYS]
@@ -47,8 +47,7 @@ pub fn search_in<const KEYS: usize, const NODES: usize>(
     best: &mut [u32],
     previous: &mut [u32],
 ) -> Option<u64>
-    requires { Sought net.now index.now ask goals.now × Room ask.runs best.old previous.old
-        × (ask.runs ≤ KEYS / 2) × (nodes_of net.now ≤ NODES) }
+    requires { Sought net.now index.now ask goals.now × Room ask.runs best.old previous.old × Enough net.now ask.runs KEYS NODES }
     ensures { Stopped net.now ask ask.tolerance goals.now best.new previous.new result }
 {
     let mut tree = no_keys::<KEYS>();
@@ -65,6 +64,24 @@ pub fn search_in<const KEYS: usize, const NODES: usize>(
     )
 }
 
+// A search in a town's memory where that has room for the network, else in a county's.
+fn search_at(
+    net: &[u8],
+    index: &[u16],
+    ask: Ask,
+    goals: &[u8],
+    best: &mut [u32],
+    previous: &mut [u32],
+) -> Option<u64>
+    requires { Sought net.now index.now ask goals.now × Room ask.runs best.old previous.old }
+    ensures { Stopped net.now ask ask.tolerance goals.now best.new previous.new result }
+{
+    if is_town(nodes_of(net), segments_of(net)) {
+        return search_in::<TOWN_KEYS, { sizes::TOWN }>(net, index, ask, goals, best, previous);
+    }
+    search_in::<COUNTY_KEYS, { sizes::COUNTY }>(net, index, ask, goals, best, previous)
+}
+
 // Searches at the tolerances from `least` to the one that is asked, until one of them meets a goal.
 pub fn explore(
     net: &[u8],
@@ -77,24 +94,11 @@ pub fn explore(
     requires { Sought net.now index.now ask goals.now × Room ask.runs best.old previous.old × (ask.least ≤ ask.tolerance) }
     ensures { Meets net.now ask goals.now best.new previous.new result }
 {
-    let tolerance = ask.tolerance;
-    if ask.least < tolerance {
-        let lower = Ask {
-            runs: ask.runs,
-            least: ask.least,
-            tolerance: tolerance - 1,
-            from: ask.from,
-            limit: ask.limit,
-        };
-        let met = explore(net, index, lower, goals, best, previous);
-        if met.is_some() {
-            return met;
+    for tolerance in ask.least..=ask.tolerance {
+        let at = Ask { tolerance, ..ask };
+        if let Some(key) = search_at(net, index, at, goals, best, previous) {
+            return Some(Met { key, tolerance });
         }
     }
-    let key = if is_town(nodes_of(net), segments_of(net)) {
-        search_in::<TOWN_KEYS, { sizes::TOWN }>(net, index, ask, goals, best, previous)?
-    } else {
-        search_in::<COUNTY_KEYS, { sizes::COUNTY }>(net, index, ask, goals, best, previous)?
-    };
-    Some(Met { key, tolerance })
+    None
 }

@@ -1,10 +1,10 @@
 -- What the steps of a search promise to each other: what holds before its first round, and what a round does.
 -- Assumes nothing.
-use Rattle.std.specs.Prelude.{◌≡◌, false, List, Option, Some, None, ℕ, ◌-◌, ◌≤◌, ◌<◌, length}
+use Rattle.std.specs.Prelude.{◌≡◌, false, List, Option, Some, None, ℕ, ◌*◌, ◌-◌, ◌/◌, ◌≤◌, ◌<◌, length}
 use Rattle.routes.specs.Reach.{is_marked}
 use Rattle.routes.specs.Steps.Labels.{edge_of}
 use Rattle.queue.specs.Steps.Queue.{top, Queue, Empty}
-use Rattle.frames.specs.Steps.Sizes.{county_feet}
+use Rattle.frames.specs.Steps.Sizes.{county_size, county_feet}
 use Rattle.network.specs.Network.{nodes_of}
 use Rattle.streets.specs.Runs.{feet_of}
 use Rattle.streets.specs.Bicycle.{bicycle}
@@ -25,6 +25,14 @@ NoKeys most tree = (n : ℕ) → n ≤ most → Empty tree n
 
 abbrev pub AllUnknown : ℕ → List ℕ → Type 0
 AllUnknown most unfound = (n : ℕ) → n ≤ most → Unknown n unfound
+
+-- So many keys, two for each run, and so many numbers are enough for the network, and are no more than a county's. The least queue has two keys.
+pub record Enough (net : List ℕ) (n keys numbers : ℕ) : Type 0 where
+  pub runs_fit : n ≤ keys / 2
+  pub nodes_fit : nodes_of net ≤ numbers
+  pub some_keys : 2 ≤ keys
+  pub few_keys : keys ≤ 4 * county_size
+  pub few_numbers : numbers ≤ county_size
 
 -- The run behind an entry of the corner index may get its first label.
 pub record Seedable (net : List ℕ) (ask : Ask) (entry : ℕ) (best previous tree : List ℕ) : Type 0 where
