@@ -3,16 +3,16 @@
 -- scratch slices and the route buffer; `told_route` and `told_least` give what an answer tells: a refusal's number; none; or, as found, count, length and
 -- level of a route (`Found`), with the tolerance where Least stress found it. Its proof is proofs/DemandThreeHolds.antt.
 -- Assumes nothing.
-use Rattle.std.specs.Prelude.{ℕ, ◌+◌, ◌≤◌, ◌<◌, ◌≡◌, true, List, ◌++◌, ◌↔◌, length, take, drop}
+use Rattle.std.specs.Prelude.{ℕ, ◌+◌, ◌≤◌, ◌<◌, ◌≡◌, true, List, ◌++◌, Option, Result, ◌↔◌, length, take, drop}
 use Rattle.routes.specs.Streets.{Streets}
 use Rattle.routes.specs.Routes.{length_of, level_of, count_of, Within, Shortest, NoRoute, LeastTolerance}
 use Rattle.network.specs.Network.{nodes_of, is_network}
 use Rattle.streets.specs.Runs.{runs_of}
 use Rattle.streets.specs.Bicycle.{bicycle}
+use Rattle.refusals.specs.declared.Refusal.{Refusal}
 use Rattle.routes.specs.declared.Found.{Found}
-use Rattle.splicereel.specs.declared.route.RouteAnswer.{RouteAnswer}
-use Rattle.splicereel.specs.declared.least_stress.LeastAnswer.{LeastAnswer}
-use Rattle.splicereel.specs.Promises.{Lent, Told, none, found, LeastRoute, told_route, told_least, RoutePromise, LeastPromise}
+use Rattle.routes.specs.declared.LeastRoute.{LeastRoute}
+use Rattle.splicereel.specs.Promises.{Lent, Told, none, found, told_route, told_least, RoutePromise, LeastPromise}
 
 -- ---- For every accepted network, every two nodes (also the same twice), any lent buffers whatever they hold:
 -- the question is in order, and what is lent has room for two numbers for each segment, the buffer from the place on.
@@ -32,7 +32,7 @@ pub record RouteCall (net : List ℕ) (from to t : ℕ) : Type 0 where
   pub in_order : InOrder net from to before place
   pub low : 1 ≤ t
   pub high : t ≤ 4
-  pub answer : RouteAnswer
+  pub answer : Result (Option Found) Refusal
   pub returned : RoutePromise net from to t before after place answer
 
 -- A call of Least stress.
@@ -41,7 +41,7 @@ pub record LeastCall (net : List ℕ) (from to : ℕ) : Type 0 where
   pub before : Lent
   pub after : Lent
   pub in_order : InOrder net from to before place
-  pub answer : LeastAnswer
+  pub answer : Result (Option LeastRoute) Refusal
   pub returned : LeastPromise net from to before after place answer
 
 -- ---- What is said of an answer

@@ -2,15 +2,14 @@
 -- crates/routes/specs/Reach.antt; `bicycle net` is the street graph of a network; calls of Route are those of specs/DemandThree.antt. Its proof is
 -- proofs/NoteThreeHolds.antt.
 -- Assumes nothing.
-use Rattle.std.specs.Prelude.{ℕ, zero, suc, ◌*◌, ◌≤◌, ◌<◌, ◌≡◌, true, List, [], ◌∷◌, ◌↔◌, length, drop}
+use Rattle.std.specs.Prelude.{ℕ, zero, suc, ◌*◌, ◌≤◌, ◌<◌, ◌≡◌, true, List, [], ◌∷◌, Option, Result, ◌↔◌, length, drop}
 use Rattle.routes.specs.Reach.{Listed, ReachMap, is_marked, Nearest, NoneMarked}
 use Rattle.routes.specs.declared.Entry.{Entry}
 use Rattle.routes.specs.declared.Found.{Found}
 use Rattle.network.specs.Network.{nodes_of, is_network}
 use Rattle.streets.specs.Runs.{runs_of}
 use Rattle.streets.specs.Bicycle.{bicycle}
-use Rattle.splicereel.specs.declared.reach_map.MapAnswer.{MapAnswer}
-use Rattle.splicereel.specs.declared.nearest.NearestAnswer.{NearestAnswer}
+use Rattle.refusals.specs.declared.Refusal.{Refusal}
 use Rattle.splicereel.specs.Promises.{Told, refused, none, found, told_route}
 use Rattle.splicereel.specs.Reaching.{MapLent, Scratch, told_map, told_nearest, MapPromise, NearestPromise}
 use Rattle.splicereel.specs.DemandThree.{RouteCall}
@@ -31,7 +30,7 @@ pub record MapCall (net : List ℕ) (from t greatest : ℕ) : Type 0 where
   pub after : MapLent
   pub in_order : ReachInOrder net from t before.best before.previous
   pub list_fits : 2 * nodes_of net ≤ length before.list
-  pub answer : MapAnswer
+  pub answer : Result ℕ Refusal
   pub returned : MapPromise net from t greatest before after answer
 
 -- A call of Nearest.
@@ -40,7 +39,7 @@ pub record NearestCall (net : List ℕ) (from t : ℕ) (marks : List ℕ) : Type
   pub after : Scratch
   pub in_order : ReachInOrder net from t before.best before.previous
   pub marks_fit : nodes_of net ≤ length marks
-  pub answer : NearestAnswer
+  pub answer : Result (Option Entry) Refusal
   pub returned : NearestPromise net from t marks before after answer
 
 -- ---- What a caller reads

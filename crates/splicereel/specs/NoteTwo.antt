@@ -4,11 +4,12 @@
 use Rattle.std.specs.Prelude.{ℕ, ◌≤◌, ◌≡◌, List}
 use Rattle.routes.specs.Routes.{length_of, Within, NoRoute, LeastTolerance}
 use Rattle.routes.specs.declared.Found.{Found}
+use Rattle.routes.specs.declared.LeastRoute.{LeastRoute}
 use Rattle.network.specs.Network.{edition_of}
 use Rattle.stress.specs.Amendment.{Amendment}
 use Rattle.streets.specs.Bicycle.{bicycle}
 use Rattle.streets.specs.FormerBicycle.{former_bicycle}
-use Rattle.splicereel.specs.Promises.{none, found, LeastRoute, told_route, told_least}
+use Rattle.splicereel.specs.Promises.{none, found, told_route, told_least}
 use Rattle.splicereel.specs.DemandThree.{RouteCall, LeastCall}
 
 -- Of a network of edition 01.

@@ -1,28 +1,19 @@
 // Least stress: the smallest tolerance at which a route exists, and a shortest route within it.
-ghost use Rattle.std.specs.Prelude.{◌≡◌};
 ghost use Rattle.splicereel.specs.Promises.{lent, LeastPromise};
-ghost use Rattle.splicereel.specs.Steps.Calls.{Memory, least_answer_of};
+ghost use Rattle.splicereel.specs.Steps.Calls.{CornerRoom, NodeRoom};
 
-use crate::route::has_room;
-use network::corners::{county_corners, town_corners};
-use network::kept::{is_county, is_network};
+use crate::checks::{check_node, check_room, counts_of};
+use frames::sizes;
+use network::corners::{COUNTY_CORNERS, TOWN_CORNERS, free_corners};
+use network::kept::is_county;
 use queue::TOP;
 use refusals::Refusal;
-use routes::Found;
+use routes::LeastRoute;
 use search_relaxing::Ask;
-use search_rounds::explore::{county_unknown, town_unknown};
-use search_routes::find::{Finding, find};
-use streets::runs::{nodes_of, segments_of};
+use search_rounds::explore::unknown;
+use search_routes::find::find;
 
-#[derive(Clone, Copy)]
-pub enum LeastAnswer {
-    Refused(Refusal),
-    // No route is within tolerance 4.
-    Nothing,
-    Found { found: Found, tolerance: usize },
-}
-
-// As `route`, at the smallest tolerance from 1 to 4 that has a route.
+// As `route`, at the smallest tolerance from 1 to 4 that has a route; none where no route is within tolerance 4.
 pub fn least_stress(
     net: &[u8],
     from: usize,
@@ -31,7 +22,7 @@ pub fn least_stress(
     previous: &mut [u32],
     buffer: &mut [u16],
     place: usize,
-) -> LeastAnswer
+) -> Result<Option<LeastRoute>, Refusal>
     ensures { LeastPromise net.now from to
         (lent best.old previous.old buffer.old)
         (lent best.new previous.new buffer.new) place result }
@@ -39,11 +30,7 @@ pub fn least_stress(
     if is_county(net) {
         return least_stress_in_county(net, from, to, best, previous, buffer, place);
     }
-    let mut index = town_corners();
-    let mut goals = town_unknown();
-    least_stress_by(
-        net, from, to, best, previous, buffer, place, &mut index, &mut goals,
-    )
+    least_stress_in::<TOWN_CORNERS, { sizes::TOWN }>(net, from, to, best, previous, buffer, place)
 }
 
 // The same in a county's memory.
@@ -55,20 +42,20 @@ pub fn least_stress_in_county(
     previous: &mut [u32],
     buffer: &mut [u16],
     place: usize,
-) -> LeastAnswer
+) -> Result<Option<LeastRoute>, Refusal>
     ensures { LeastPromise net.now from to
         (lent best.old previous.old buffer.old)
         (lent best.new previous.new buffer.new) place result }
 {
-    let mut index = county_corners();
-    let mut goals = county_unknown();
-    least_stress_by(
-        net, from, to, best, previous, buffer, place, &mut index, &mut goals,
+    least_stress_in::<COUNTY_CORNERS, { sizes::COUNTY }>(
+        net, from, to, best, previous, buffer, place,
     )
 }
 
-// The same with a corner index and a byte for each node that are lent.
-fn least_stress_by(
+// The same in memory for so many corners and nodes. It is never inlined: a town takes no stack for a county.
+#[inline(never)]
+#[tactic(auto, unfolding(crate::specs::Finding::least_stress_refusal, crate::specs::Finding::nodes_refusal))]
+fn least_stress_in<const CORNERS: usize, const NODES: usize>(
     net: &[u8],
     from: usize,
     to: usize,
@@ -76,43 +63,26 @@ fn least_stress_by(
     previous: &mut [u32],
     buffer: &mut [u16],
     place: usize,
-    index: &mut [u16],
-    goals: &mut [u8],
-) -> LeastAnswer
-    requires { Memory net.now index.old goals.old }
+) -> Result<Option<LeastRoute>, Refusal>
+    requires { CornerRoom net.now CORNERS × NodeRoom net.now NODES }
     ensures { LeastPromise net.now from to
         (lent best.old previous.old buffer.old)
         (lent best.new previous.new buffer.new) place result }
 {
-    if !is_network(net, index) {
-        return LeastAnswer::Refused(Refusal::NotANetwork);
-    }
-    let nodes = nodes_of(net);
-    if (from >= nodes) | (to >= nodes) {
-        return LeastAnswer::Refused(Refusal::NoSuchNode);
-    }
-    let runs = 2 * segments_of(net);
-    if !has_room(runs, best.len(), previous.len(), buffer.len(), place) {
-        return LeastAnswer::Refused(Refusal::NoRoom);
-    }
+    let mut index = free_corners::<CORNERS>();
+    let counts = counts_of(net, &mut index)?;
+    check_node(counts.nodes, from)?;
+    check_node(counts.nodes, to)?;
+    check_room(counts.runs, best.len(), previous.len(), buffer.len(), place)?;
     let ask = Ask {
-        runs,
+        runs: counts.runs,
         least: 1,
         tolerance: 4,
         from,
         limit: TOP,
     };
-    least_answered(find(net, index, ask, to, best, previous, buffer, place, goals))
-}
-
-fn least_answered(finding: Finding) -> LeastAnswer
-    ensures { result ≡ least_answer_of finding }
-{
-    match finding {
-        Finding::Nothing => LeastAnswer::Nothing,
-        Finding::Found { found, tolerance } => LeastAnswer::Found {
-            found,
-            tolerance: tolerance as usize,
-        },
-    }
+    let mut goals = unknown::<NODES>();
+    Ok(find(
+        net, &index, ask, to, best, previous, buffer, place, &mut goals,
+    ))
 }

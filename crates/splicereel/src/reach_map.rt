@@ -1,22 +1,15 @@
 // Reach map: every node within a tolerance and a greatest length of one node, with its least length.
 ghost use Rattle.splicereel.specs.Reaching.{map_lent, MapPromise};
-ghost use Rattle.splicereel.specs.Steps.Calls.{Memory};
+ghost use Rattle.splicereel.specs.Steps.Calls.{CornerRoom, NodeRoom};
 
-use network::corners::{county_corners, town_corners};
-use network::kept::{is_county, is_network};
-use queue::TOP;
+use crate::checks::{ask_from, check_entries};
+use frames::sizes;
+use network::corners::{COUNTY_CORNERS, TOWN_CORNERS, free_corners};
+use network::kept::is_county;
 use refusals::Refusal;
 use search_reach::map::reach;
-use search_relaxing::Ask;
-use search_rounds::explore::{county_unknown, town_unknown};
-use streets::runs::{nodes_of, segments_of};
-
-#[derive(Clone, Copy)]
-pub enum MapAnswer {
-    Refused(Refusal),
-    // The count of entries.
-    Listed(usize),
-}
+use search_rounds::explore::unknown;
+use streets::runs::nodes_of;
 
 // Writes the entries at the front of the list, each two numbers, the node and its least length in feet, in rising node number, and gives their count.
 pub fn reach_map(
@@ -27,7 +20,7 @@ pub fn reach_map(
     best: &mut [u32],
     previous: &mut [u32],
     list: &mut [u32],
-) -> MapAnswer
+) -> Result<usize, Refusal>
     ensures { MapPromise net.now from tolerance greatest
         (map_lent best.old previous.old list.old)
         (map_lent best.new previous.new list.new) result }
@@ -35,10 +28,8 @@ pub fn reach_map(
     if is_county(net) {
         return reach_map_in_county(net, from, tolerance, greatest, best, previous, list);
     }
-    let mut index = town_corners();
-    let goals = town_unknown();
-    reach_map_by(
-        net, from, tolerance, greatest, best, previous, list, &mut index, &goals,
+    reach_map_in::<TOWN_CORNERS, { sizes::TOWN }>(
+        net, from, tolerance, greatest, best, previous, list,
     )
 }
 
@@ -51,20 +42,20 @@ pub fn reach_map_in_county(
     best: &mut [u32],
     previous: &mut [u32],
     list: &mut [u32],
-) -> MapAnswer
+) -> Result<usize, Refusal>
     ensures { MapPromise net.now from tolerance greatest
         (map_lent best.old previous.old list.old)
         (map_lent best.new previous.new list.new) result }
 {
-    let mut index = county_corners();
-    let goals = county_unknown();
-    reach_map_by(
-        net, from, tolerance, greatest, best, previous, list, &mut index, &goals,
+    reach_map_in::<COUNTY_CORNERS, { sizes::COUNTY }>(
+        net, from, tolerance, greatest, best, previous, list,
     )
 }
 
-// The same with a corner index and a byte for each node that are lent.
-fn reach_map_by(
+// The same in memory for so many corners and nodes. It is never inlined: a town takes no stack for a county.
+#[inline(never)]
+#[tactic(auto, unfolding(crate::specs::Finding::reach_refusal))]
+fn reach_map_in<const CORNERS: usize, const NODES: usize>(
     net: &[u8],
     from: usize,
     tolerance: usize,
@@ -72,37 +63,15 @@ fn reach_map_by(
     best: &mut [u32],
     previous: &mut [u32],
     list: &mut [u32],
-    index: &mut [u16],
-    goals: &[u8],
-) -> MapAnswer
-    requires { Memory net.now index.old goals.now }
+) -> Result<usize, Refusal>
+    requires { CornerRoom net.now CORNERS × NodeRoom net.now NODES }
     ensures { MapPromise net.now from tolerance greatest
         (map_lent best.old previous.old list.old)
         (map_lent best.new previous.new list.new) result }
 {
-    if !is_network(net, index) {
-        return MapAnswer::Refused(Refusal::NotANetwork);
-    }
-    let nodes = nodes_of(net);
-    if from >= nodes {
-        return MapAnswer::Refused(Refusal::NoSuchNode);
-    }
-    if (tolerance < 1) | (tolerance > 4) {
-        return MapAnswer::Refused(Refusal::NoSuchTolerance);
-    }
-    let runs = 2 * segments_of(net);
-    if (runs > best.len()) | (runs > previous.len()) {
-        return MapAnswer::Refused(Refusal::NoRoom);
-    }
-    if 2 * nodes > list.len() {
-        return MapAnswer::Refused(Refusal::TooFewEntries);
-    }
-    let ask = Ask {
-        runs,
-        least: tolerance as u8,
-        tolerance: tolerance as u8,
-        from,
-        limit: TOP,
-    };
-    MapAnswer::Listed(reach(net, index, ask, greatest, goals, best, previous, list))
+    let mut index = free_corners::<CORNERS>();
+    let ask = ask_from(net, &mut index, from, tolerance, best, previous)?;
+    check_entries(2 * nodes_of(net), list.len())?;
+    let goals = unknown::<NODES>();
+    Ok(reach(net, &index, ask, greatest, &goals, best, previous, list))
 }

@@ -1,27 +1,25 @@
 // Nearest for C.
-ghost use Rattle.std.specs.Prelude.{◌≤◌, length};
-ghost use Rattle.splicereel.specs.Reaching.{scratch, told_nearest};
-ghost use Rattle.splicereel_c.specs.Replies.{Replies, NearestReplies};
-ghost use Rattle.splicereel_c.specs.Steps.Tells.{NearestFits, of_nearest};
+ghost use Rattle.splicereel.specs.Reaching.{scratch};
+ghost use Rattle.splicereel_c.specs.Replies.{NearestReplies};
+ghost use Rattle.splicereel_c.specs.Steps.Tells.{NearestFits, nearest_entries};
 
-use refusals::number_of;
-use splicereel::nearest::{NearestAnswer, nearest};
+use crate::tell::{Told, tell};
+use routes::Entry;
+use splicereel::nearest::nearest;
 
-fn tell(answer: NearestAnswer, told: &mut [u32]) -> u32
-    requires { NearestFits (told_nearest answer) × (8 ≤ length told.old) }
-    ensures { Replies (of_nearest answer) told.old told.new result }
-{
-    match answer {
-        NearestAnswer::Refused(refusal) => number_of(refusal) as u32,
-        NearestAnswer::Nothing => {
-            told[0] = 0;
-            0
-        }
-        NearestAnswer::Found(entry) => {
-            told[0] = 1;
-            told[1] = entry.node as u32;
-            told[2] = entry.length;
-            0
+impl Told for Option<Entry> {
+    ghost fits = { NearestFits };
+
+    ghost entries = { nearest_entries };
+
+    fn write(self, told: &mut [u32]) {
+        match self {
+            None => told[0] = 0,
+            Some(entry) => {
+                told[0] = 1;
+                told[1] = entry.node as u32;
+                told[2] = entry.length;
+            }
         }
     }
 }

@@ -1,22 +1,19 @@
 // Reach map for C.
-ghost use Rattle.std.specs.Prelude.{◌≤◌, length};
-ghost use Rattle.splicereel.specs.Reaching.{map_lent, told_map};
-ghost use Rattle.splicereel_c.specs.Replies.{Replies, MapReplies};
-ghost use Rattle.splicereel_c.specs.Steps.Tells.{MapFits, of_map};
+ghost use Rattle.splicereel.specs.Reaching.{map_lent};
+ghost use Rattle.splicereel_c.specs.Replies.{MapReplies};
+ghost use Rattle.splicereel_c.specs.Steps.Tells.{CountFits, count_entries};
 
-use refusals::number_of;
-use splicereel::reach_map::{MapAnswer, reach_map};
+use crate::tell::{Told, tell};
+use splicereel::reach_map::reach_map;
 
-fn tell(answer: MapAnswer, told: &mut [u32]) -> u32
-    requires { MapFits (told_map answer) × (8 ≤ length told.old) }
-    ensures { Replies (of_map answer) told.old told.new result }
-{
-    match answer {
-        MapAnswer::Refused(refusal) => number_of(refusal) as u32,
-        MapAnswer::Listed(count) => {
-            told[0] = count as u32;
-            0
-        }
+// A count of entries.
+impl Told for usize {
+    ghost fits = { CountFits };
+
+    ghost entries = { count_entries };
+
+    fn write(self, told: &mut [u32]) {
+        told[0] = self as u32;
     }
 }
 

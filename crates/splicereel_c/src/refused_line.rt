@@ -11,7 +11,7 @@ fn tell(cursor: Cursor, part: &mut [usize]) -> u32
 {
     part[0] = cursor.start;
     part[1] = cursor.length;
-    cursor.number as u32
+    u32::from(cursor.number)
 }
 
 // part[0]: where the part begins; part[1]: its bytes. Both are always written.

@@ -1,37 +1,67 @@
--- The memory of a call, and a finding of the search as the answers of the calls. What these promise stands in specs/Promises.antt and
--- specs/Reaching.antt.
+-- What the steps of a call promise to each other: its memory, and the tests that it makes. What the calls promise stands in specs/Promises.antt, specs/Reaching.antt and
+-- specs/Judge.antt.
 -- Assumes nothing.
-use Rattle.search_reach.specs.declared.nearest.Marked.{Marked}
-use Rattle.search_reach.specs.declared.nearest.Marked.TheVariants.{Nothing, Found}
-use Rattle.splicereel.specs.declared.nearest.NearestAnswer.{NearestAnswer}
-use Rattle.splicereel.specs.declared.nearest.NearestAnswer.TheVariants.{Nothing, Found}
-use Rattle.std.specs.Prelude.{◌≡◌, true, List, ℕ}
-use Rattle.network.specs.Network.{is_network}
-use Rattle.network.specs.Steps.Checks.{Awaits}
-use Rattle.search_routes.specs.Steps.Answered.{Unmarked}
-use Rattle.search_routes.specs.declared.find.Finding.{Finding}
-use Rattle.search_routes.specs.declared.find.Finding.TheVariants.{Nothing, Found}
-use Rattle.splicereel.specs.declared.route.RouteAnswer.{RouteAnswer}
-use Rattle.splicereel.specs.declared.route.RouteAnswer.TheVariants.{Nothing, Found}
-use Rattle.splicereel.specs.declared.least_stress.LeastAnswer.{LeastAnswer}
-use Rattle.splicereel.specs.declared.least_stress.LeastAnswer.TheVariants.{Nothing, Found}
+use Rattle.std.specs.Prelude.{ℕ, ◌*◌, ◌/◌, ◌≤◌, ◌≡◌, Bool, true, false, ◌&&◌, List, Result, leb, length, MatchResult}
+use Rattle.refusals.specs.declared.Refusal.{Refusal}
+use Rattle.refusals.specs.declared.Refusal.TheVariants.{NotANetwork, TooFewEntries}
+use Rattle.refusals.specs.Numbers.{number_of, unless}
+use Rattle.network.specs.Network.{nodes_of, is_network}
+use Rattle.frames.specs.Steps.Sizes.{county_size}
+use Rattle.network.specs.Steps.Corners.{IndexOf}
+use Rattle.network.specs.Steps.Checks.{FewNodes}
+use Rattle.streets.specs.Runs.{runs_of, is_open}
+use Rattle.streets.specs.Steps.Places.{RunOf}
+use Rattle.search_labels.specs.Steps.Labels.{Room}
+use Rattle.search_relaxing.specs.declared.Ask.{Ask}
+use Rattle.search_reach.specs.Steps.Map.{AskedAt}
+use Rattle.splicereel.specs.declared.checks.Counts.{Counts}
+use Rattle.splicereel.specs.Finding.{reach_refusal}
 
--- A corner index with every leg free, and a 0 for each node, so that none is a goal; both have room for the network's nodes.
-pub record Memory (net index goals : List ℕ) : Type 0 where
-  pub corners : Awaits net index
-  pub unmarked : is_network net ≡ true → Unmarked net goals
+-- ---- Memory
+-- An index of so many corners has room for a network's, and is no larger than a county's.
+pub record CornerRoom (net : List ℕ) (corners : ℕ) : Type 0 where
+  pub few : FewNodes (corners / 8) net
+  pub most : corners ≤ 8 * county_size
 
--- A finding as Route's answer.
-abbrev pub answer_of : Finding → RouteAnswer
-answer_of Nothing = Nothing
-answer_of (Found route tolerance) = Found route
+-- So many bytes are one or more for each node of a network, and no more than a county's.
+pub record NodeRoom (net : List ℕ) (nodes : ℕ) : Type 0 where
+  pub few : FewNodes nodes net
+  pub most : nodes ≤ county_size
 
--- A finding as that of Least stress.
-abbrev pub least_answer_of : Finding → LeastAnswer
-least_answer_of Nothing = Nothing
-least_answer_of (Found route tolerance) = Found route tolerance
+-- ---- Tests
+-- A test: where it holds the call goes on with such a value, and where it fails it refuses.
+abbrev pub Tested : {A : Type 0} → Bool → Refusal → (A → Type 0) → Result A Refusal → Type 0
+Tested test why Is result = MatchResult result (λ x. (test ≡ true) × Is x) (λ e. (test ≡ false) × (e ≡ why))
 
--- What is met as the answer of Nearest.
-abbrev pub nearest_answer_of : Marked → NearestAnswer
-nearest_answer_of Nothing = Nothing
-nearest_answer_of (Found entry) = Found entry
+-- So many nodes and runs, and the corners, are the network's.
+pub record CountsOf (net index : List ℕ) (counts : Counts) : Type 0 where
+  pub network : is_network net ≡ true
+  pub nodes : counts.nodes ≡ nodes_of net
+  pub runs : counts.runs ≡ runs_of net
+  pub corners : IndexOf net index
+
+abbrev pub NetworkTested : List ℕ → List ℕ → Result Counts Refusal → Type 0
+NetworkTested net index result = Tested (is_network net) NotANetwork (CountsOf net index) result
+
+-- Both scratch slices have a number for each run.
+abbrev pub scratch_fits : ℕ → ℕ → ℕ → Bool
+scratch_fits runs best previous = leb runs best && leb runs previous
+
+-- A run of a network, and open.
+pub record OpenRun (net : List ℕ) (r : ℕ) : Type 0 where
+  pub run : RunOf net r
+  pub opened : is_open net r ≡ true
+
+-- What Reach map and Nearest ask of the search, where nothing is left to test but the list or the marks.
+pub record AskFrom (net index : List ℕ) (from t : ℕ) (best previous : List ℕ) (ask : Ask) : Type 0 where
+  pub asked : AskedAt net index ask
+  pub scratch : Room ask.runs best previous
+  pub start : ask.from ≡ from
+  pub within : ask.tolerance ≡ t
+  pub last_test : (size entries : ℕ)
+      → reach_refusal net from t (length best) (length previous) size entries ≡ unless (leb (size * nodes_of net) entries) TooFewEntries 0
+
+abbrev pub AskTested : List ℕ → List ℕ → ℕ → ℕ → List ℕ → List ℕ → Result Ask Refusal → Type 0
+AskTested net index from t best previous result =
+    MatchResult result (AskFrom net index from t best previous)
+    (λ e. (size entries : ℕ) → number_of e ≡ reach_refusal net from t (length best) (length previous) size entries)

@@ -1,69 +1,70 @@
--- What the functions that tell an answer to C ask of it, numbers that fit the 32 bits of an entry of `told`, and the reply that each of them gives. What
--- the exported functions promise stands in specs/Replies.antt.
+-- What is told of each answer that is no refusal: the entries of `told` that it writes, and which of its numbers must fit their 32 bits. What the exported
+-- functions promise stands in specs/Replies.antt.
 -- Assumes nothing.
-use Rattle.std.specs.Prelude.{ℕ, ◌<◌}
-use Rattle.text.specs.declared.ReadAnswer.{ReadAnswer}
-use Rattle.text.specs.declared.ReadAnswer.TheVariants.{Refused, Kept}
+use Rattle.std.specs.Prelude.{ℕ, ◌<◌, List, [], ◌∷◌, Option, Some, None, Result, Ok, Err}
+use Rattle.refusals.specs.declared.Refusal.{Refusal}
+use Rattle.refusals.specs.Numbers.{number_of}
+use Rattle.text.specs.declared.Refused.{Refused}
 use Rattle.text.specs.Told.{told}
 use Rattle.routes.specs.declared.Found.{Found}
+use Rattle.routes.specs.declared.LeastRoute.{LeastRoute}
 use Rattle.routes.specs.declared.Entry.{Entry}
-use Rattle.splicereel.specs.declared.judge.SegmentAnswer.{SegmentAnswer}
-use Rattle.splicereel.specs.declared.judge.MovementAnswer.{MovementAnswer}
-use Rattle.splicereel.specs.Judge.{told_segment, told_movement}
-use Rattle.splicereel.specs.declared.route.RouteAnswer.{RouteAnswer}
-use Rattle.splicereel.specs.declared.least_stress.LeastAnswer.{LeastAnswer}
-use Rattle.splicereel.specs.declared.reach_map.MapAnswer.{MapAnswer}
-use Rattle.splicereel.specs.declared.nearest.NearestAnswer.{NearestAnswer}
-use Rattle.splicereel.specs.Reaching.{told_map, told_nearest}
-use Rattle.splicereel.specs.Promises.{Told, refused, none, found, LeastRoute, told_route, told_least}
-use Rattle.splicereel_c.specs.Replies.{Reply, read_reply, segment_reply, movement_reply, route_reply, least_reply, map_reply, nearest_reply}
+use Rattle.stress.specs.declared.segment.Grade.{Grade}
+use Rattle.splicereel_c.specs.Replies.{Reply, reply, read_reply}
 
 -- More than the greatest number of 32 bits.
 abbrev pub span : ℕ
 span = 4294967296
 
-abbrev pub ReadFits : ReadAnswer → Type 0
-ReadFits (Refused why line) = line < span
-ReadFits (Kept count) = count < span
+-- ---- Read
+abbrev pub ReadFits : Result ℕ Refused → Type 0
+ReadFits (Err why) = why.line < span
+ReadFits (Ok count) = count < span
 
-abbrev pub CountFits : Told Found → Type 0
-CountFits (refused number) = Unit {0}
-CountFits none = Unit {0}
-CountFits (found route) = route.count < span
-
-abbrev pub LeastFits : Told LeastRoute → Type 0
-LeastFits (refused number) = Unit {0}
-LeastFits none = Unit {0}
-LeastFits (found least) = (least.route.count < span) × (least.tolerance < span)
-
-abbrev pub MapFits : Told ℕ → Type 0
-MapFits (refused number) = Unit {0}
-MapFits none = Unit {0}
-MapFits (found count) = count < span
-
-abbrev pub NearestFits : Told Entry → Type 0
-NearestFits (refused number) = Unit {0}
-NearestFits none = Unit {0}
-NearestFits (found entry) = entry.node < span
-
--- ---- The reply to each answer.
-abbrev pub of_read : ReadAnswer → Reply
+abbrev pub of_read : Result ℕ Refused → Reply
 of_read answer = read_reply (told answer)
 
-abbrev pub of_segment : SegmentAnswer → Reply
-of_segment answer = segment_reply (told_segment answer)
+-- ---- The other calls: a refusal writes nothing
+abbrev pub reply_to : {A : Type 0} → (A → List ℕ) → Result A Refusal → Reply
+reply_to entries (Err why) = reply (number_of why) []
+reply_to entries (Ok what) = reply 0 (entries what)
 
-abbrev pub of_movement : MovementAnswer → Reply
-of_movement answer = movement_reply (told_movement answer)
+-- Each of its numbers is of 32 bits or fewer.
+abbrev pub AllFit : {A : Type 0} → A → Type 0
+AllFit what = Unit {0}
 
-abbrev pub of_route : RouteAnswer → Reply
-of_route answer = route_reply (told_route answer)
+abbrev pub grade_entries : Grade → List ℕ
+grade_entries grade = grade.level ∷ grade.measure ∷ []
 
-abbrev pub of_least : LeastAnswer → Reply
-of_least answer = least_reply (told_least answer)
+abbrev pub level_entries : ℕ → List ℕ
+level_entries level = level ∷ []
 
-abbrev pub of_map : MapAnswer → Reply
-of_map answer = map_reply (told_map answer)
+abbrev pub RouteFits : Option Found → Type 0
+RouteFits None = Unit {0}
+RouteFits (Some route) = route.count < span
 
-abbrev pub of_nearest : NearestAnswer → Reply
-of_nearest answer = nearest_reply (told_nearest answer)
+abbrev pub route_entries : Option Found → List ℕ
+route_entries None = 0 ∷ []
+route_entries (Some route) = 1 ∷ route.count ∷ route.length ∷ route.level ∷ []
+
+abbrev pub LeastFits : Option LeastRoute → Type 0
+LeastFits None = Unit {0}
+LeastFits (Some least) = least.route.count < span
+
+abbrev pub least_entries : Option LeastRoute → List ℕ
+least_entries None = 0 ∷ []
+least_entries (Some least) = 1 ∷ least.route.count ∷ least.route.length ∷ least.route.level ∷ least.tolerance ∷ []
+
+abbrev pub CountFits : ℕ → Type 0
+CountFits count = count < span
+
+abbrev pub count_entries : ℕ → List ℕ
+count_entries count = count ∷ []
+
+abbrev pub NearestFits : Option Entry → Type 0
+NearestFits None = Unit {0}
+NearestFits (Some entry) = entry.node < span
+
+abbrev pub nearest_entries : Option Entry → List ℕ
+nearest_entries None = 0 ∷ []
+nearest_entries (Some entry) = 1 ∷ entry.node ∷ entry.length ∷ []

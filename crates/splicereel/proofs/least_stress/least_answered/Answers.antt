@@ -1,6 +1,0 @@
--- `splicereel::least_stress::least_answered` meets its contract: each case is the definition at its case.
-use Rattle.splicereel.proofs.least_stress.least_answered.Goals as goal
-
-pub returns-in-Found : goal.returns-in-Found
-returns-in-Found c =
-    rw c.in-Found.is

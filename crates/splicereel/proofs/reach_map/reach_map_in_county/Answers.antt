@@ -1,7 +1,0 @@
--- The memory has room for the nodes of every network; the answer is that of the function that it is lent to.
-use Rattle.splicereel.proofs.MemoryLaws.{county_memory}
-use Rattle.splicereel.proofs.reach_map.reach_map_in_county.Goals as goal
-
-pub reach_map_by-requires : goal.reach_map_by-requires
-reach_map_by-requires c =
-    county_memory c.county_corners-index.ensures c.county_unknown-goals.ensures
