@@ -25,80 +25,82 @@ use Rattle.network.specs.Legs.{taking}
 use Rattle.network.specs.Faults.{segment_fault}
 use Rattle.network.specs.Network.{head_of, kept_bytes, frames_ok, is_network}
 use Rattle.network.specs.Steps.Corners.{Indexed, corners_from}
-use Rattle.network.specs.Steps.Checks.{claimed, FramesChecked, Checked, SegmentChecked}
+use Rattle.network.specs.Steps.Checks.{claimed, index_fault, FramesChecked, Checked, SegmentChecked}
 use Rattle.network.proofs.CornerLaws.{corners_few, index_fault_lem, claimed_indexed}
 use Rattle.network.proofs.FaultLaws.{faultless}
 
 -- ---- the loop
-pub record Going (net : List ℕ) (head : Head) (s at : ℕ) (d : List ℕ) : Type 0 where
+pub record Going (net : List ℕ) (head : Head) (s : ℕ) (d : List ℕ) : Type 0 where
   pub taken : List ℕ
   pub runs : length taken ≡ 2 * s
-  pub low : s ≤ head.segments
   pub limited : Limited head
-  pub place : at ≡ 7 + frame_bytes head.edition * s
   pub long : length net ≡ 7 + frame_bytes head.edition * head.segments
   pub indexed : Indexed head.nodes taken d
-  pub tests : frames_ok head.edition head.nodes (head.segments - s) taken (drop at net)
+  pub tests : frames_ok head.edition head.nodes (head.segments - s) taken (drop (7 + frame_bytes head.edition * s) net)
       ≡ frames_ok head.edition head.nodes head.segments [] (drop 7 net)
-  pub corners : corners_from head.edition (head.segments - s) taken (drop at net) ≡ corners_from head.edition head.segments [] (drop 7 net)
+  pub corners : corners_from head.edition (head.segments - s) taken (drop (7 + frame_bytes head.edition * s) net)
+      ≡ corners_from head.edition head.segments [] (drop 7 net)
 
 pub starts : {net : List ℕ} {head : Head} {d : List ℕ} → Limited head → length net ≡ 7 + frame_bytes head.edition * head.segments → Indexed head.nodes [] d
-    → Going net head 0 7 d
+    → Going net head 0 d
 starts {net} {head} p l x =
-    record {
-      taken = [];
-      runs = refl;
-      low = omega arith;
-      limited = p;
-      place = ap (λ (z : ℕ). 7 + z) (sym (mul-zero (frame_bytes head.edition)));
-      long = l;
-      indexed = x;
-      tests = rw sub-zero;
-      corners = rw sub-zero;
-    }
+    record { taken = []; runs = refl; limited = p; long = l; indexed = x; tests = rw (mul-zero, sub-zero); corners = rw (mul-zero, sub-zero) }
 
-module _ {net : List ℕ} {head : Head} {s at : ℕ} {d : List ℕ} (w : Going net head s at d) where
-  pub part_fits : s < head.segments → at + frame_bytes head.edition ≤ length net
+module _ {net : List ℕ} {head : Head} {s : ℕ} {d : List ℕ} (w : Going net head s d) where
+  pub part_fits : s < head.segments → 7 + frame_bytes head.edition * s + frame_bytes head.edition ≤ length net
   part_fits h =
       let p : frame_bytes head.edition * (s + 1) ≤ frame_bytes head.edition * head.segments = mul-le-mul_left (frame_bytes head.edition) (omega arith) in
-      omega (arith, p, w.place, w.long, times_next (frame_bytes head.edition) s)
+      omega (arith, p, w.long, times_next (frame_bytes head.edition) s)
+
+-- the frame of segment s, as the code cuts it out
+abbrev pub part : List ℕ → ℕ → ℕ → List ℕ
+part net size s = take (7 + size * s + size - (7 + size * s)) (drop (7 + size * s) net)
+
+module _ {net : List ℕ} {head : Head} {s : ℕ} {d : List ℕ} (w : Going net head s d) {size : ℕ} (e : size ≡ frame_bytes head.edition) where
+  abbrev left : List ℕ
+  left = drop (7 + frame_bytes head.edition * s) net
+
+  part_is : part net size s ≡ take (frame_bytes head.edition) left
+  part_is =
+      let l : 7 + frame_bytes head.edition * s + frame_bytes head.edition - (7 + frame_bytes head.edition * s) ≡ frame_bytes head.edition = omega arith in
+      simp (e, l)
 
   -- what the code tested of its part is what the definition tests of the frame
-  tested : {d' : List ℕ} {r : Bool} (m : ℕ) → m ≡ frame_bytes head.edition → SegmentChecked (take m (drop at net)) head s d d' r
-      → eqb (segment_fault head.edition head.nodes true w.taken (take (frame_bytes head.edition) (drop at net))) 0 ≡ r
-  tested {d'} {r} m q g =
-      subst (λ (x : ℕ). eqb (segment_fault head.edition head.nodes true w.taken (take x (drop at net))) 0 ≡ r) q
-      (ap (λ (x : ℕ). eqb x 0) (sym (index_fault_lem w.indexed head.edition true (take m (drop at net)))) ∙ sym g.answer)
+  tested : {d' : List ℕ} {r : Bool} → SegmentChecked (part net size s) head s d d' r
+      → eqb (segment_fault head.edition head.nodes true w.taken (take (frame_bytes head.edition) left)) 0 ≡ r
+  tested {d'} {r} g =
+      ap (λ (x : ℕ). eqb x 0)
+      (sym (index_fault_lem w.indexed head.edition true (take (frame_bytes head.edition) left))
+      ∙ ap (index_fault head.edition head.nodes true d) (sym part_is)) ∙ sym g.answer
 
-  pub fails : {d' : List ℕ} {r : Bool} (m : ℕ) → s < head.segments → m ≡ frame_bytes head.edition → SegmentChecked (take m (drop at net)) head s d d' r → r ≡ false
-      → FramesChecked head (drop 7 net) d' false
+  pub fails : {d' : List ℕ} {r : Bool} → s < head.segments → SegmentChecked (part net size s) head s d d' r → r ≡ false → FramesChecked head (drop 7 net) d' false
   unfolding frames_ok
-  fails {d'} {r} m h q g x =
+  fails {d'} {r} h g x =
       let z : head.segments - s ≡ suc (head.segments - (s + 1)) = omega arith in
-      record { answer = sym (rw (z, frames_ok, tested m q g ∙ x)) ∙ w.tests; index = λ t. true_is_false refl t }
+      record { answer = sym (rw (z, frames_ok, tested g ∙ x)) ∙ w.tests; index = λ t. true_is_false refl t }
 
-  pub goes_on : {d' : List ℕ} {r : Bool} (m : ℕ) → s < head.segments → m ≡ frame_bytes head.edition → SegmentChecked (take m (drop at net)) head s d d' r → r ≡ true
-      → Going net head (s + 1) (at + frame_bytes head.edition) d'
+  pub goes_on : {d' : List ℕ} {r : Bool} → s < head.segments → SegmentChecked (part net size s) head s d d' r → r ≡ true → Going net head (s + 1) d'
   unfolding frames_ok corners_from
-  goes_on {d'} {r} m h q g x =
-      let f : List ℕ = take (frame_bytes head.edition) (drop at net) in
+  goes_on {d'} {r} h g x =
+      let f : List ℕ = take (frame_bytes head.edition) left in
       let z : head.segments - s ≡ suc (head.segments - (s + 1)) = omega arith in
-      let t : eqb (segment_fault head.edition head.nodes true w.taken f) 0 ≡ true = tested m q g ∙ x in
+      let t : eqb (segment_fault head.edition head.nodes true w.taken f) 0 ≡ true = tested g ∙ x in
       let o = corners_few head.nodes f (faultless head.edition head.nodes true w.taken f (eqb-true _ _ t)).follows.ends in
-      let y : d' ≡ claimed d s f = g.index x ∙ ap (λ (i : ℕ). claimed d s (take i (drop at net))) q in
-      let b : drop (frame_bytes head.edition) (drop at net) ≡ drop (at + frame_bytes head.edition) net = drop-drop (frame_bytes head.edition) at net in
+      let y : d' ≡ claimed d s f = g.index x ∙ ap (claimed d s) part_is in
+      let b : drop (frame_bytes head.edition) left ≡ drop (7 + frame_bytes head.edition * (s + 1)) net =
+      drop-drop (frame_bytes head.edition) (7 + frame_bytes head.edition * s) net
+      ∙ ap (λ (i : ℕ). drop i net) (omega (arith, times_next (frame_bytes head.edition) s)) in
       record {
         taken = taking w.taken f;
         runs = omega (arith, w.runs);
-        low = omega arith;
         limited = w.limited;
-        place = omega (arith, w.place, times_next (frame_bytes head.edition) s);
         long = w.long;
         indexed = subst (λ (i : List ℕ). Indexed head.nodes (taking w.taken f) i) (sym y) (claimed_indexed w.indexed s f w.runs o.0 o.1);
         tests = sym (rw (z, frames_ok, t, b)) ∙ w.tests;
         corners = sym (rw (z, corners_from, b)) ∙ w.corners;
       }
 
+module _ {net : List ℕ} {head : Head} {s : ℕ} {d : List ℕ} (w : Going net head s d) where
   pub ends : head.segments ≤ s → FramesChecked head (drop 7 net) d true
   unfolding frames_ok corners_from
   ends h =

@@ -18,11 +18,14 @@ use Rattle.frames.proofs.FrameLaws.{head_limits}
 use Rattle.frames.proofs.TownLaws.{town_nodes}
 use Rattle.network.specs.Network.{head_of, edition_of, nodes_of, segments_of, is_network}
 use Rattle.network.specs.Steps.Corners.{NoCorners}
-use Rattle.network.specs.Steps.Checks.{Awaits, is_county}
+use Rattle.network.specs.Steps.Checks.{FewNodes, Awaits, is_county}
 use Rattle.network.proofs.NetworkLaws.{passed}
 
-pub county_awaits : {net index : List ℕ} → NoCorners county_size index → Awaits net index
-county_awaits {net} w = record { free = λ l h. w (nodes_of net) (head_limits (head_of net) h).few_nodes }
+pub few_await : {most : ℕ} {net index : List ℕ} → FewNodes most net → NoCorners most index → Awaits net index
+few_await {most} {net} few w = record { free = λ l h. w (nodes_of net) (few.few l h) }
+
+pub county_heads : (net : List ℕ) → FewNodes county_size net
+county_heads net = record { few = λ l h. (head_limits (head_of net) h).few_nodes }
 
 -- bytes that are no county's, but have a head in order, are a town's
 module _ (net : List ℕ) {county : Bool} (e : county ≡ is_county net) (f : county ≡ false) where
@@ -39,8 +42,14 @@ module _ (net : List ℕ) {county : Bool} (e : county ≡ is_county net) (f : co
   pub town_few : is_network net ≡ true → nodes_of net ≤ town_size
   town_few is = let P = passed net is in town_head (omega (arith, P.long)) P.head.fields
 
+  pub town_heads : FewNodes town_size net
+  town_heads = record { few = town_head }
+
+pub county_awaits : {net index : List ℕ} → NoCorners county_size index → Awaits net index
+county_awaits {net} w = few_await (county_heads net) w
+
 pub town_awaits : {net index : List ℕ} {county : Bool} → county ≡ is_county net → county ≡ false → NoCorners town_size index → Awaits net index
-town_awaits {net} e f w = record { free = λ l h. w (nodes_of net) (town_head net e f l h) }
+town_awaits {net} e f w = few_await (town_heads net e f) w
 
 pub county_few : (net : List ℕ) → is_network net ≡ true → nodes_of net ≤ county_size
 county_few net is = (passed net is).limits.few_nodes

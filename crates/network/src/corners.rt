@@ -1,5 +1,5 @@
 // The corner index: for each leg of each node, 0 while it is free, else 1 + the run that leaves by it.
-ghost use Rattle.std.specs.Prelude.{◌/◌};
+ghost use Rattle.std.specs.Prelude.{◌/◌, ◌≡◌};
 ghost use Rattle.network.specs.Steps.Corners.{NoCorners, run_leaving};
 ghost use Rattle.network.specs.Steps.Checks.{Claimable, Claimed};
 

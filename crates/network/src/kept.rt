@@ -1,8 +1,8 @@
 // Test 8: bytes that Read could keep.
-ghost use Rattle.std.specs.Prelude.{◌+◌, ◌*◌, ◌/◌, ◌<◌, ◌≡◌, [], length, drop};
+ghost use Rattle.std.specs.Prelude.{◌+◌, ◌*◌, ◌/◌, ◌≤◌, ◌<◌, ◌≡◌, [], length, drop};
 ghost use Rattle.frames.specs.Edition.{frame_bytes};
 ghost use Rattle.frames.specs.Frame.{head_bytes};
-ghost use Rattle.frames.specs.Steps.Sizes.{Limited};
+ghost use Rattle.frames.specs.Steps.Sizes.{county_size, Limited};
 ghost use Rattle.network.specs.Network.{is_network};
 ghost use Rattle.network.specs.Steps.Corners.{Indexed};
 ghost use Rattle.network.specs.Steps.Checks.{HeadFits, FewNodes, Awaits, FramesChecked, Checked, SegmentChecked, is_county};
@@ -93,7 +93,7 @@ pub fn is_county(net: &[u8]) -> bool
 // stack for a county.
 #[inline(never)]
 fn is_kept_in<const CORNERS: usize>(net: &[u8]) -> bool
-    requires { FewNodes (CORNERS / 8) net.now }
+    requires { (CORNERS ≤ 8 * county_size) × FewNodes (CORNERS / 8) net.now }
     ensures { result ≡ is_network net.now }
 {
     let mut index = free_corners::<CORNERS>();

@@ -1,7 +1,7 @@
--- The memory has room for the nodes that the head says; the answer is that of the test.
-use Rattle.std.proofs.Common.{rules}
-use Rattle.network.proofs.SizeLaws.{town_awaits}
+-- What is no county's fits a town's memory.
+use native.Mathlib.Omega.{arith}
+use Rattle.network.proofs.SizeLaws.{town_heads}
 use Rattle.network.proofs.kept.is_kept.Goals as goal
 
-pub is_network-requires : goal.is_network-requires
-is_network-requires c = search (rules, town_awaits)
+pub is_kept_in-requires : goal.is_kept_in-requires
+is_kept_in-requires c = (omega arith, town_heads _ c.is_county.ensures c.if-is_county.false)
