@@ -4,8 +4,7 @@ use mathlib.Core.Bool.{Bool, true, false, not, ◌&&◌}
 use mathlib.Core.List.{List}
 use mathlib.Core.Path.{◌≡◌, sym, subst₂}
 use lib.Dec.{eqb}
-use lib.ListN.{get_or, set, length-set}
-use borrow.Author.Rules.{rules}
+use lib.ListN.{get_or, set}
 use Rattle.network.specs.Legs.{corner_a, corner_b}
 use Rattle.network.specs.Steps.Checks.{Claimed, free_in}
 use Rattle.network.proofs.corners.claim_legs.Goals as goal
@@ -21,10 +20,6 @@ module _ (f : List ℕ) (s : ℕ) (d : List ℕ) (a b : ℕ) (p : a ≡ corner_a
 
   takes_none : (eqb (get_or d a 0) 0 && eqb (get_or d b 0) 0 && not (eqb a b)) ≡ false → Claimed f s d d false
   takes_none e = record { answer = sym (tested false e); index = rw (tested false e) }
-
-pub bounds-index-b-then-index-a : goal.bounds-index-b-then-index-a
-bounds-index-b-then-index-a c =
-    simp length-set (search rules)
 
 pub returns-then-index-a : goal.returns-then-index-a
 returns-then-index-a c =

@@ -1,5 +1,4 @@
 -- The memory has room for the nodes that a head in order says; the answer is that of the test.
-use native.Mathlib.Omega.{arith}
 use Rattle.network.proofs.SizeLaws.{few_await}
 use Rattle.network.proofs.kept.is_kept_in.Goals as goal
 

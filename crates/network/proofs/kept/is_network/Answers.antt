@@ -31,25 +31,9 @@ pub returns-then-net-lt-HEAD_BYTES : goal.returns-then-net-lt-HEAD_BYTES
 returns-then-net-lt-HEAD_BYTES c =
     too_short c.if-net-lt-HEAD_BYTES.true
 
-pub slice_bounds-first-end : goal.slice_bounds-first-end
-slice_bounds-first-end c =
-    omega arith
-
-pub is_framed-requires : goal.is_framed-requires
-is_framed-requires c =
-    simp length-take (omega arith)
-
-pub head_ok-requires : goal.head_ok-requires
-head_ok-requires c =
-    simp length-take (omega arith)
-
 pub returns-then-not-is_framed-head_ok : goal.returns-then-not-is_framed-head_ok
 returns-then-not-is_framed-head_ok c =
     no_head (tests c.args.net.now c.if-net-lt-HEAD_BYTES.false c.is_framed.ensures c.head_ok.ensures c.if-not-is_framed-head_ok.true)
-
-pub head_of-head-requires : goal.head_of-head-requires
-head_of-head-requires c =
-    simp length-take (omega arith)
 
 pub kept_bytes-requires : goal.kept_bytes-requires
 kept_bytes-requires c =

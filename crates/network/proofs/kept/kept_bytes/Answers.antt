@@ -12,7 +12,3 @@ pub overflow_add-result : goal.overflow_add-result
 overflow_add-result c =
     let size = c.frame_bytes in
     omega (arith, frames_few size.result c.args.head.segments size.ensures.most c.requires.few_segments)
-
-pub returns : goal.returns
-returns c =
-    rw c.frame_bytes.ensures.is
