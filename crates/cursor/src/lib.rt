@@ -2,22 +2,19 @@
 // pass; where the refused line begins is then known from the lengths of the lines before it, and only that line is searched for its end.
 #![tactic(auto)]
 
-ghost use Rattle.std.specs.Prelude.{◌+◌, ◌≤◌, ◌<◌, ◌≡◌, length, drop};
+ghost use Rattle.std.specs.Prelude.{◌≡◌, length};
 ghost use Rattle.cursor.specs.Cursor.{cursor_of, Points};
-ghost use Rattle.cursor.specs.Steps.Places.{line_end, ends_within, Passed, WholeBefore, Begins};
+ghost use Rattle.cursor.specs.Lines.{first_line};
+ghost use Rattle.cursor.specs.Steps.Places.{WholeBefore, Begins};
 
 use digits::decode_into;
 use frames::decoded::head_of;
 use frames::edition::frame_bytes;
 use frames::fields;
-use refusals::{Refusal, number_of};
-use text::ReadAnswer;
+use memchr::memchr;
+use refusals::Refusal;
+use text::Refused;
 use text::read::judge_text;
-
-// So many bytes of a line are looked at together: a vector of them, and what is left of one.
-const LARGE: usize = 32;
-
-const SMALL: usize = 8;
 
 // A refusal's number, and the part of the text that holds the refused line: where it begins, and how many bytes it has.
 #[derive(Clone, Copy)]
@@ -27,50 +24,18 @@ pub struct Cursor {
     pub length: usize,
 }
 
-// Whether 0A is among so many bytes at a place. It does not stop at the first, so that the compiler can take many at a step.
-fn block_ends(text: &[u8], at: usize, size: usize) -> bool
-    requires { at + size ≤ length text.now }
-    ensures { result ≡ ends_within size (drop at text.now) }
-{
-    let mut found = false;
-    let mut k: usize = 0;
-    while k < size {
-        found = found | (text[at + k] == 10);
-        k += 1;
-    }
-    found
+// The number, and the part itself.
+#[derive(Clone, Copy)]
+pub struct Part<'a> {
+    pub number: u8,
+    pub bytes: &'a [u8],
 }
 
-// Passes over the blocks of this size from a place on that hold no 0A.
-fn pass_blocks(text: &[u8], at: usize, size: usize) -> usize
-    requires { (at ≤ length text.now) × (0 < size) }
-    ensures { Passed text.now at result }
+// How many bytes a text's first line has, without its 0A.
+fn line_length(text: &[u8]) -> usize
+    ensures { result ≡ length (first_line text.now) }
 {
-    let mut place = at;
-    while size <= text.len() - place {
-        if block_ends(text, place, size) {
-            return place;
-        }
-        place += size;
-    }
-    place
-}
-
-// Where the line that begins at a place ends: at its 0A, or at the text's end. It is passed in large blocks, then in small ones, then byte by byte.
-fn line_end(text: &[u8], at: usize) -> usize
-    requires { at ≤ length text.now }
-    ensures { result ≡ line_end text.now at }
-{
-    let near = pass_blocks(text, at, LARGE);
-    let mut i = pass_blocks(text, near, SMALL);
-    while i < text.len() {
-        let next = i + 1;
-        if text[i] == 10 {
-            return i;
-        }
-        i = next;
-    }
-    i
+    memchr(b'\n', text).unwrap_or(text.len())
 }
 
 // Where a refused line begins. The lines before it have no fault: they are a head's and frames', of known lengths.
@@ -93,30 +58,33 @@ pub fn locate(text: &[u8], room: usize) -> Cursor
     ensures { result ≡ cursor_of text.now room }
 {
     match judge_text(text, room) {
-        ReadAnswer::Kept(_) => Cursor {
-            number: number_of(Refusal::NoRefusedLine),
+        Ok(_) => Cursor {
+            number: u8::from(Refusal::NoRefusedLine),
             start: text.len(),
             length: 0,
         },
-        ReadAnswer::Refused { refusal, line } => {
+        Err(Refused { refusal, line }) => {
             let start = line_start(text, line);
-            let length = line_end(text, start) - start;
             Cursor {
-                number: number_of(refusal),
+                number: u8::from(refusal),
                 start,
-                length,
+                length: line_length(&text[start..]),
             }
         }
     }
 }
 
 // The same as a part of the caller's text, with the number beside it.
-pub fn refused_line<'a>(text: &'a [u8], room: usize, number: &mut u8) -> &'a [u8]
-    ensures { Points text.entry room result number.new }
+pub fn refused_line<'a>(text: &'a [u8], room: usize) -> Part<'a>
+    ensures { Points text.entry room result.bytes result.number }
 {
-    let cursor = locate(text, room);
-    *number = cursor.number;
-    let start = cursor.start;
-    let end = start + cursor.length;
-    &text[start..end]
+    let Cursor {
+        number,
+        start,
+        length,
+    } = locate(text, room);
+    Part {
+        number,
+        bytes: &text[start..start + length],
+    }
 }

@@ -6,19 +6,23 @@ use splicereel::refused_line::{locate, refused_line};
 use std::io;
 
 fn show(rt: &impl Print, text: &[u8], room: usize) -> io::Result<()> {
-    let mut number: u8 = 0;
-    let part = refused_line(text, room, &mut number);
+    let refused = refused_line(text, room);
     let cursor = locate(text, room);
-    println!(rt; "{number} {} {}", cursor.start, part.len())?;
-    rt.write_all(part)?;
+    println!(rt;
+        "{} {} {}",
+        refused.number,
+        cursor.start,
+        refused.bytes.len()
+    )?;
+    rt.write_all(refused.bytes)?;
     println!(rt)
 }
 
 fn main(rt: HostRuntime) -> io::Result<()> {
-    let mut buffer = [0u8; 65536];
+    let mut buffer = [0; 65536];
     let count = input::read_full(&mut rt.stdin(), &mut buffer);
-    let text = &buffer[..count];
-    show(&rt, text, 0)?;
-    show(&rt, text, 37)?;
-    show(&rt, text, usize::MAX)
+    for room in [0, 37, usize::MAX] {
+        show(&rt, &buffer[..count], room)?;
+    }
+    Ok(())
 }

@@ -15,7 +15,8 @@ pub type Page = ArrayString<65536>;
 pub fn put_field(n: usize, after: char, page: &mut Page)
     requires room { array_string_len page.old + 21 ≤ 65536 }
     requires ascii { after < 128 }
-    ensures { page.new.bytes ≡ page.old.bytes ++ (decimal 20 n ++ (after ∷ [])) }
+    ensures text { page.new.bytes ≡ page.old.bytes ++ (decimal 20 n ++ (after ∷ [])) }
+    ensures len { array_string_len page.new ≤ array_string_len page.old + 21 }
 {
     page.push_str(Buffer::new().format(n));
     page.push(after);

@@ -4,5 +4,5 @@ use mathlib.Core.List.{append_assoc}
 use Rattle.printing.proofs.Decimal.{decimal_displayed}
 use Rattle.printing.proofs.put_field.Goals as goal
 
-pub returns : goal.returns
-returns c = search (rules, decimal_displayed, append_assoc)
+pub returns-clause-text : goal.returns-clause-text
+returns-clause-text c = search (rules, decimal_displayed, append_assoc)
