@@ -4,15 +4,12 @@
 
 use frames::{Crossing, Form, TurnLane};
 use std::io;
+use stress::crossing::crossing_level;
+use stress::segment::grade_of;
+use stress::turn_lane::turn_lane_level;
 
 // Every example is of edition 01.
 const EDITION: u8 = 1;
-
-// The example's name, then level and measure.
-fn segment(rt: &impl Print, name: &str, form: Form) -> io::Result<()> {
-    let grade = stress::segment::grade_of(EDITION, form);
-    println!(rt; "{name} {} {}", grade.level, grade.measure)
-}
 
 // What is crossed under a control of 2 or more.
 fn crossing(control: u8, lanes: u8, speed: u8) -> Crossing {
@@ -23,192 +20,131 @@ fn crossing(control: u8, lanes: u8, speed: u8) -> Crossing {
     }
 }
 
-fn put_crossing(rt: &impl Print, control: u8, lanes: u8, speed: u8) -> io::Result<()> {
-    let level = stress::crossing::crossing_level(EDITION, crossing(control, lanes, speed));
-    print!(rt; " {level}")
-}
-
 // The control and the speed, then levels for 1 to 6 and 12 lanes.
-fn crossings(rt: &impl Print, control: u8, speed: u8) -> io::Result<()> {
+fn crossing_levels(rt: &impl Print, control: u8, speed: u8) -> io::Result<()> {
     print!(rt; "control {control} {speed} mph:")?;
-    put_crossing(rt, control, 1, speed)?;
-    put_crossing(rt, control, 2, speed)?;
-    put_crossing(rt, control, 3, speed)?;
-    put_crossing(rt, control, 4, speed)?;
-    put_crossing(rt, control, 5, speed)?;
-    put_crossing(rt, control, 6, speed)?;
-    put_crossing(rt, control, 12, speed)?;
+    for lanes in [1, 2, 3, 4, 5, 6, 12] {
+        let level = crossing_level(EDITION, crossing(control, lanes, speed));
+        print!(rt; " {level}")?;
+    }
     println!(rt)
 }
 
-// One table, at both ends of every speed band.
-fn table(rt: &impl Print, control: u8) -> io::Result<()> {
-    crossings(rt, control, 5)?;
-    crossings(rt, control, 25)?;
-    crossings(rt, control, 26)?;
-    crossings(rt, control, 30)?;
-    crossings(rt, control, 31)?;
-    crossings(rt, control, 35)?;
-    crossings(rt, control, 36)?;
-    crossings(rt, control, 85)
+// The tables of all controls, at both ends of every speed band.
+fn crossing_tables(rt: &impl Print) -> io::Result<()> {
+    for control in [2, 3, 4] {
+        for speed in [5, 25, 26, 30, 31, 35, 36, 85] {
+            crossing_levels(rt, control, speed)?;
+        }
+    }
+    Ok(())
 }
 
-// Turn lanes of kinds 1, 2 and 3.
-fn turn_lanes(rt: &impl Print, feet: u16, speed: u8) -> io::Result<()> {
-    let straight = stress::turn_lane::turn_lane_level(TurnLane::Straight { feet, speed });
-    let left = stress::turn_lane::turn_lane_level(TurnLane::ShiftsLeft { feet, speed });
-    let none = stress::turn_lane::turn_lane_level(TurnLane::NoBikeLane { feet, speed });
-    println!(rt; "turn lanes {feet} ft {speed} mph: {straight} {left} {none}")
+// Turn lanes of kinds 1, 2 and 3, on both sides of each limit of their length and speed.
+fn turn_lanes(rt: &impl Print) -> io::Result<()> {
+    for (feet, speed) in [
+        (75, 15),
+        (76, 15),
+        (150, 15),
+        (151, 15),
+        (75, 16),
+        (150, 20),
+        (150, 21),
+    ] {
+        let straight = turn_lane_level(TurnLane::Straight { feet, speed });
+        let left = turn_lane_level(TurnLane::ShiftsLeft { feet, speed });
+        let none = turn_lane_level(TurnLane::NoBikeLane { feet, speed });
+        println!(rt; "turn lanes {feet} ft {speed} mph: {straight} {left} {none}")?;
+    }
+    Ok(())
 }
 
-// Level and measure of form 1 with one lane.
-fn put_parking(rt: &impl Print, speed: u8, reach: u8, marks: u8) -> io::Result<()> {
-    let grade = stress::segment::grade_of(
-        EDITION,
-        Form::BesideParking {
+// Level and measure of form 1 with one lane: no mark, residential, often blocked, both.
+fn parking_marks(rt: &impl Print, reach: u8, speed: u8) -> io::Result<()> {
+    print!(rt; "beside parking, reach {reach}, {speed} mph:")?;
+    for (before, marks) in [("", 0), (",", 2), (",", 8), (",", 10)] {
+        let form = Form::BesideParking {
             lanes: 1,
             speed,
             reach,
             marks,
-        },
-    );
-    print!(rt; " {} {}", grade.level, grade.measure)
-}
-
-// Form 1 at this reach and speed: no mark, residential, often blocked, both.
-fn parking_marks(rt: &impl Print, reach: u8, speed: u8) -> io::Result<()> {
-    print!(rt; "beside parking, reach {reach}, {speed} mph:")?;
-    put_parking(rt, speed, reach, 0)?;
-    print!(rt; ",")?;
-    put_parking(rt, speed, reach, 2)?;
-    print!(rt; ",")?;
-    put_parking(rt, speed, reach, 8)?;
-    print!(rt; ",")?;
-    put_parking(rt, speed, reach, 10)?;
+        };
+        let grade = grade_of(EDITION, form);
+        print!(rt; "{before} {} {}", grade.level, grade.measure)?;
+    }
     println!(rt)
 }
 
-// On both sides of 25 mph, and in every speed band.
-fn parking_speeds(rt: &impl Print, reach: u8) -> io::Result<()> {
-    parking_marks(rt, reach, 20)?;
-    parking_marks(rt, reach, 24)?;
-    parking_marks(rt, reach, 25)?;
-    parking_marks(rt, reach, 26)?;
-    parking_marks(rt, reach, 30)?;
-    parking_marks(rt, reach, 31)?;
-    parking_marks(rt, reach, 36)
+// On both sides of each limit of the reach and of 25 mph, and in every speed band.
+fn parking_table(rt: &impl Print) -> io::Result<()> {
+    for reach in [26, 27, 28, 29, 30, 31] {
+        for speed in [20, 24, 25, 26, 30, 31, 36] {
+            parking_marks(rt, reach, speed)?;
+        }
+    }
+    Ok(())
 }
 
-// On both sides of each limit of the reach.
-fn parking_table(rt: &impl Print) -> io::Result<()> {
-    parking_speeds(rt, 26)?;
-    parking_speeds(rt, 27)?;
-    parking_speeds(rt, 28)?;
-    parking_speeds(rt, 29)?;
-    parking_speeds(rt, 30)?;
-    parking_speeds(rt, 31)
+// The example's name, then level and measure.
+fn segment(rt: &impl Print, name: &str, form: Form) -> io::Result<()> {
+    let grade = grade_of(EDITION, form);
+    println!(rt; "{name}: {} {}", grade.level, grade.measure)
 }
 
 fn mixed_traffic(rt: &impl Print) -> io::Result<()> {
-    segment(
-        rt,
-        "mixed, 2 lanes, centreline, 31 mph:",
-        Form::Mixed {
-            lanes: 2,
-            speed: 31,
-            marks: 1,
-        },
-    )?;
-    segment(
-        rt,
-        "mixed, 5 lanes, 25 mph:",
-        Form::Mixed {
-            lanes: 5,
-            speed: 25,
-            marks: 0,
-        },
-    )?;
-    segment(
-        rt,
-        "mixed, 6 lanes, 25 mph:",
-        Form::Mixed {
-            lanes: 6,
-            speed: 25,
-            marks: 0,
-        },
-    )
+    for (name, lanes, speed, marks) in [
+        ("mixed, 2 lanes, centreline, 31 mph", 2, 31, 1),
+        ("mixed, 5 lanes, 25 mph", 5, 25, 0),
+        ("mixed, 6 lanes, 25 mph", 6, 25, 0),
+    ] {
+        let form = Form::Mixed {
+            lanes,
+            speed,
+            marks,
+        };
+        segment(rt, name, form)?;
+    }
+    Ok(())
 }
 
 fn beside_parking(rt: &impl Print) -> io::Result<()> {
-    segment(
-        rt,
-        "beside parking, 1 lane, 25 mph, reach 28:",
-        Form::BesideParking {
+    for (name, reach, marks) in [
+        ("beside parking, 1 lane, 25 mph, reach 28", 28, 0),
+        ("beside parking, 1 lane, 25 mph, reach 30", 30, 0),
+        ("beside parking, 1 lane, 25 mph, reach 30, blocked", 30, 8),
+    ] {
+        let form = Form::BesideParking {
             lanes: 1,
             speed: 25,
-            reach: 28,
-            marks: 0,
-        },
-    )?;
-    segment(
-        rt,
-        "beside parking, 1 lane, 25 mph, reach 30:",
-        Form::BesideParking {
-            lanes: 1,
-            speed: 25,
-            reach: 30,
-            marks: 0,
-        },
-    )?;
-    segment(
-        rt,
-        "beside parking, 1 lane, 25 mph, reach 30, blocked:",
-        Form::BesideParking {
-            lanes: 1,
-            speed: 25,
-            reach: 30,
-            marks: 8,
-        },
-    )
+            reach,
+            marks,
+        };
+        segment(rt, name, form)?;
+    }
+    Ok(())
 }
 
 fn bike_lanes_and_paths(rt: &impl Print) -> io::Result<()> {
-    segment(
-        rt,
-        "bike lane, 1 lane, 36 mph, reach 12:",
-        Form::BikeLane {
-            lanes: 1,
-            speed: 36,
-            reach: 12,
+    for (name, lanes, speed, reach) in [
+        ("bike lane, 1 lane, 36 mph, reach 12", 1, 36, 12),
+        ("bike lane, 2 lanes, 25 mph, reach 11", 2, 25, 11),
+    ] {
+        let form = Form::BikeLane {
+            lanes,
+            speed,
+            reach,
             marks: 0,
-        },
-    )?;
-    segment(
-        rt,
-        "bike lane, 2 lanes, 25 mph, reach 11:",
-        Form::BikeLane {
-            lanes: 2,
-            speed: 25,
-            reach: 11,
-            marks: 0,
-        },
-    )?;
-    segment(rt, "separate path:", Form::SeparatePath)
+        };
+        segment(rt, name, form)?;
+    }
+    segment(rt, "separate path", Form::SeparatePath)
 }
 
 fn main(rt: HostRuntime) -> io::Result<()> {
     mixed_traffic(&rt)?;
     beside_parking(&rt)?;
     bike_lanes_and_paths(&rt)?;
-    table(&rt, 2)?;
-    table(&rt, 3)?;
-    table(&rt, 4)?;
-    turn_lanes(&rt, 75, 15)?;
-    turn_lanes(&rt, 76, 15)?;
-    turn_lanes(&rt, 150, 15)?;
-    turn_lanes(&rt, 151, 15)?;
-    turn_lanes(&rt, 75, 16)?;
-    turn_lanes(&rt, 150, 20)?;
-    turn_lanes(&rt, 150, 21)?;
+    crossing_tables(&rt)?;
+    turn_lanes(&rt)?;
     parking_table(&rt)
 }
