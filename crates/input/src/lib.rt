@@ -14,9 +14,8 @@ pub fn read_full<R: Read>(input: &mut R, room: &mut [u8]) -> usize
     let mut count: usize = 0;
     while count < room.len() {
         match input.read(&mut room[count..]) {
-            Ok(0) => return count,
+            Ok(0) | Err(_) => break,
             Ok(more) => count += more,
-            Err(_) => return count,
         }
     }
     count
