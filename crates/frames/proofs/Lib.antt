@@ -3,3 +3,4 @@ pub mod RangeLaws
 pub mod FrameLaws
 pub mod FaultLaws
 pub mod TownLaws
+pub mod DecodedLaws

@@ -1,7 +1,10 @@
 -- A number that is within two others is no less than the one and no greater than the other.
 -- Assumes nothing.
+use Rattle.std.specs.declared.ops.RangeInclusive.{RangeInclusive}
+use Rattle.std.specs.Range.{range_inclusive_start, range_inclusive_end, range_inclusive_exhausted, range_inclusive_contains}
+use Rattle.std.proofs.Common.{rules, Some, nat_cmp}
 use Prim.Native.Nat.{ℕ, ◌≤◌}
-use mathlib.Core.Bool.{true}
+use mathlib.Core.Bool.{true, false}
 use mathlib.Core.Path.{◌≡◌}
 use lib.Dec.{leb}
 use borrow.Author.Tests.{leb-true}
@@ -13,3 +16,8 @@ within_low lo hi x e = leb-true lo x (and_true (leb lo x) (leb x hi) e).0
 
 pub within_high : (lo hi x : ℕ) → within lo hi x ≡ true → x ≤ hi
 within_high lo hi x e = leb-true x hi (and_true (leb lo x) (leb x hi) e).1
+
+-- what `contains` answers at a range of both its ends
+pub contains_within : (s : RangeInclusive ℕ) (lo hi x : ℕ) → range_inclusive_start s ≡ lo → range_inclusive_end s ≡ hi → range_inclusive_exhausted s ≡ false
+    → range_inclusive_contains (λ (a b : ℕ). Some (nat_cmp a b)) s x ≡ within lo hi x
+contains_within s lo hi x a b c = rw (a, b, c) (search rules)

@@ -36,35 +36,30 @@ pub fn form_at(net: &[u8], start: usize, e: u8) -> Form
 {
     let x = extra_of(e);
     let at = start + x;
-    let form = net[at + fields::FORM];
     let lanes = net[at + fields::LANES];
     let speed = net[at + fields::SPEED];
     let reach = net[at + fields::REACH];
     let marks = net[at + fields::MARKS];
-    if form == 0 {
-        return Form::Mixed {
+    match net[at + fields::FORM] {
+        0 => Form::Mixed {
             lanes,
             speed,
             marks,
-        };
-    }
-    if form == 1 {
-        return Form::BesideParking {
-            lanes,
-            speed,
-            reach,
-            marks,
-        };
-    }
-    if form == 2 {
-        return Form::BikeLane {
+        },
+        1 => Form::BesideParking {
             lanes,
             speed,
             reach,
             marks,
-        };
+        },
+        2 => Form::BikeLane {
+            lanes,
+            speed,
+            reach,
+            marks,
+        },
+        _ => Form::SeparatePath,
     }
-    Form::SeparatePath
 }
 
 // What the approach at place i of the frame crosses.
@@ -73,22 +68,15 @@ pub fn crossing_at(net: &[u8], start: usize, e: u8, i: usize) -> Crossing
     ensures { result ≡ crossing_of e (take (frame_bytes e) (drop start net.now)) i }
 {
     let at = start + i;
-    let control = net[at];
     let lanes = net[at + fields::LANES_CROSSED];
     let speed = net[at + fields::SPEED_CROSSED];
-    if control == 0 {
-        return Crossing::Nothing;
+    match net[at] {
+        0 => Crossing::Nothing,
+        1 => Crossing::Signal,
+        2 => Crossing::NoIsland { lanes, speed },
+        3 => Crossing::Island { lanes, speed },
+        _ => Crossing::OneWay { lanes, speed },
     }
-    if control == 1 {
-        return Crossing::Signal;
-    }
-    if control == 2 {
-        return Crossing::NoIsland { lanes, speed };
-    }
-    if control == 3 {
-        return Crossing::Island { lanes, speed };
-    }
-    Crossing::OneWay { lanes, speed }
 }
 
 // The turn lane of the approach at place i of the frame.
@@ -97,17 +85,12 @@ pub fn turn_lane_at(net: &[u8], start: usize, e: u8, i: usize) -> TurnLane
     ensures { result ≡ turn_lane_of (take (frame_bytes e) (drop start net.now)) i }
 {
     let at = start + i;
-    let kind = net[at + fields::TURN_KIND];
     let feet = word_at(net, at + fields::TURN_FEET) as u16;
     let speed = net[at + fields::TURNING_SPEED];
-    if kind == 0 {
-        return TurnLane::Absent;
+    match net[at + fields::TURN_KIND] {
+        0 => TurnLane::Absent,
+        1 => TurnLane::Straight { feet, speed },
+        2 => TurnLane::ShiftsLeft { feet, speed },
+        _ => TurnLane::NoBikeLane { feet, speed },
     }
-    if kind == 1 {
-        return TurnLane::Straight { feet, speed };
-    }
-    if kind == 2 {
-        return TurnLane::ShiftsLeft { feet, speed };
-    }
-    TurnLane::NoBikeLane { feet, speed }
 }

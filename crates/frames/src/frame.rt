@@ -12,7 +12,7 @@ pub fn byte_at(f: &[u8], i: usize) -> usize
     requires { i < length f.now }
     ensures { (result ≡ byte f.now i) × (result < 256) }
 {
-    f[i] as usize
+    usize::from(f[i])
 }
 
 // A field of two bytes, the high byte first.
@@ -20,7 +20,7 @@ pub fn word_at(f: &[u8], i: usize) -> usize
     requires { i + 1 < length f.now }
     ensures { (result ≡ word f.now i) × (result < 65536) }
 {
-    byte_at(f, i) * 256 + byte_at(f, i + 1)
+    usize::from(u16::from_be_bytes([f[i], f[i + 1]]))
 }
 
 // A segment's length in feet.
@@ -28,12 +28,10 @@ pub fn feet_of(f: &[u8], e: u8) -> usize
     requires { frame_bytes e ≤ length f.now }
     ensures { (result ≡ feet e f.now) × (result < 4294967296) }
 {
-    let bytes = fields::FEET_BYTES + extra_of(e);
-    let mut feet = word_at(f, fields::FEET);
-    let mut read: usize = fields::FEET_BYTES;
-    while read < bytes {
-        feet = feet * 256 + byte_at(f, fields::FEET + read);
-        read += 1;
+    let end = fields::FEET + fields::FEET_BYTES + extra_of(e);
+    let mut feet: usize = 0;
+    for byte in &f[fields::FEET..end] {
+        feet = feet * 256 + usize::from(*byte);
     }
     feet
 }
@@ -42,13 +40,11 @@ pub fn feet_of(f: &[u8], e: u8) -> usize
 pub fn sum_of(f: &[u8]) -> usize
     ensures { result ≡ total f.now % 256 }
 {
-    let mut sum: usize = 0;
-    let mut i: usize = 0;
-    while i < f.len() {
-        sum = (sum + byte_at(f, i)) % 256;
-        i += 1;
+    let mut sum: u8 = 0;
+    for byte in f {
+        sum = sum.wrapping_add(*byte);
     }
-    sum
+    usize::from(sum)
 }
 
 // Bytes of a frame's length are a frame of this kind.

@@ -19,7 +19,7 @@ pub fn head_ok(h: &[u8]) -> bool
     let e = h[fields::EDITION];
     let nodes = word_at(h, fields::NODES);
     edition_ok(e)
-        & ((1 <= nodes) & (nodes <= most_nodes(e)))
+        & (1..=most_nodes(e)).contains(&nodes)
         & (word_at(h, fields::SEGMENTS) <= most_segments(e))
 }
 
@@ -49,8 +49,8 @@ fn form_ok(f: &[u8], e: u8) -> bool
         return (lanes == 0) & (speed == 0) & (reach == 0) & (marks == 0);
     }
     (form <= 2)
-        & ((1 <= lanes) & (lanes <= 12))
-        & ((5 <= speed) & (speed <= 85))
+        & (1..=12).contains(&lanes)
+        & (5..=85).contains(&speed)
         & (reach <= 60)
         & marks_ok(e, marks)
         & ((1 <= form) | (reach == 0))
@@ -67,9 +67,7 @@ fn crossing_ok(f: &[u8], e: u8, i: usize) -> bool
     if crosses_nothing(e, control) {
         return (lanes == 0) & (speed == 0);
     }
-    ((2 <= control) & (control <= 4))
-        & ((1 <= lanes) & (lanes <= 12))
-        & ((5 <= speed) & (speed <= 85))
+    (2..=4).contains(&control) & (1..=12).contains(&lanes) & (5..=85).contains(&speed)
 }
 
 // The turn lane of the approach at place i of a frame. Most approaches have none.
@@ -83,7 +81,7 @@ fn turn_lane_ok(f: &[u8], i: usize) -> bool
     if kind == 0 {
         return (feet == 0) & (speed == 0);
     }
-    (kind <= 3) & ((1 <= feet) & (feet <= MOST_TURN_FEET)) & ((5 <= speed) & (speed <= 85))
+    (kind <= 3) & (1..=MOST_TURN_FEET).contains(&feet) & (5..=85).contains(&speed)
 }
 
 // The approach at place i of a frame.
@@ -91,10 +89,7 @@ fn approach_ok(f: &[u8], e: u8, i: usize) -> bool
     requires { i + 6 < length f.now }
     ensures { result ≡ approach_ok e f.now i }
 {
-    if !crossing_ok(f, e, i) {
-        return false;
-    }
-    turn_lane_ok(f, i)
+    crossing_ok(f, e, i) && turn_lane_ok(f, i)
 }
 
 // All that a segment's frame has after its ends. A frame that is refused is rare, so each test is a branch of its own, which costs the others nothing.
@@ -105,16 +100,10 @@ pub fn street_ok(f: &[u8], e: u8) -> bool
     let x = extra_of(e);
     let feet = feet_of(f, e);
     let ways = f[x + fields::WAYS];
-    let feet_ok = (1 <= feet) & (feet <= most_feet(e));
-    let ways_ok = (1 <= ways) & (ways <= 3);
-    if !(feet_ok & ways_ok) {
-        return false;
-    }
-    if !form_ok(f, e) {
-        return false;
-    }
-    if !approach_ok(f, e, x + fields::APPROACH_B) {
-        return false;
-    }
-    approach_ok(f, e, x + fields::APPROACH_A)
+    let feet_ok = (1..=most_feet(e)).contains(&feet);
+    let ways_ok = (1..=3).contains(&ways);
+    feet_ok & ways_ok
+        && form_ok(f, e)
+        && approach_ok(f, e, x + fields::APPROACH_B)
+        && approach_ok(f, e, x + fields::APPROACH_A)
 }

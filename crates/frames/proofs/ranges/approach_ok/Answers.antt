@@ -3,12 +3,12 @@ use mathlib.Core.Path.{sym, ◌∙◌}
 use Rattle.frames.specs.Ranges.{approach_ok}
 use Rattle.frames.proofs.ranges.approach_ok.Goals as goal
 
-pub returns-then-not-crossing_ok : goal.returns-then-not-crossing_ok
+pub returns-then-crossing_ok : goal.returns-then-crossing_ok
 unfolding approach_ok
-returns-then-not-crossing_ok c =
-    rw (sym c.crossing_ok.ensures ∙ c.if-not-crossing_ok.true)
+returns-then-crossing_ok c =
+    rw (sym c.crossing_ok.ensures ∙ c.if-crossing_ok.true) c.turn_lane_ok.ensures
 
-pub returns : goal.returns
+pub returns-else-crossing_ok : goal.returns-else-crossing_ok
 unfolding approach_ok
-returns c =
-    rw (sym c.crossing_ok.ensures ∙ c.if-not-crossing_ok.false) c.turn_lane_ok.ensures
+returns-else-crossing_ok c =
+    rw (c.if-crossing_ok.false, sym c.crossing_ok.ensures ∙ c.if-crossing_ok.false)

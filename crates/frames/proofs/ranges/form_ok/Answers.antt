@@ -4,6 +4,7 @@ use mathlib.Core.Bool.{Bool, true, false, ◌&&◌, ◌||◌, or-false}
 use mathlib.Core.Path.{◌≡◌, refl, sym}
 use lib.Dec.{leb, eqb}
 use borrow.Author.Tests.{ne_eqb}
+use Rattle.std.proofs.Common.{rules}
 use Rattle.frames.specs.Edition.{marks_ok}
 use Rattle.frames.specs.Frame.{form, lanes, speed, reach, marks}
 use Rattle.frames.specs.Ranges.{within, form_ok}
@@ -33,6 +34,8 @@ returns c =
     let f = c.args.f.now in
     let x = c.extra_of-x.ensures.is in
     let other : form e f ≡ 3 → ⊥ = rw x at c.if-form-eq3.false in
-    rw (c.marks_ok.ensures, x, ne_eqb _ _ other)
+    let lane_counts : c.contains.result ≡ within 1 12 (lanes e f) = rw (← x) (search rules) in
+    let speeds : c.contains-2.result ≡ within 5 85 (speed e f) = rw (← x) (search rules) in
+    rw (lane_counts, speeds, c.marks_ok.ensures, x, ne_eqb _ _ other)
     (one_or_two (leb (form e f) 2) (leb 1 (form e f)) (within 1 12 (lanes e f)) (within 5 85 (speed e f)) (leb (reach e f) 60)
     (marks_ok e (marks e f)) (eqb (reach e f) 0))
