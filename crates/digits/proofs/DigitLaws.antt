@@ -1,21 +1,21 @@
--- Lines and their digits. A line is taken apart at a place of the text, clause by clause of `line_of`; what a whole line says of its text
+-- Lines and their digits. A line is taken apart from the front of its text, clause by clause of `line_of`; what a whole line says of its text
 -- (`Fronts`) is proved along the same clauses, and a scan's answer then tells the line's bytes, their sum and the text after it.
 -- Assumes nothing.
-use Prim.Native.Nat.{ℕ, zero, suc, ◌+◌, ◌*◌, ◌-◌, ◌%◌, ◌≤◌, ◌<◌}
+use Prim.Native.Nat.{ℕ, zero, suc, ◌+◌, ◌*◌, ◌-◌, ◌%◌, ◌≤◌, ◌<◌, min}
 use mathlib.Core.Bool.{Bool, true, false, cond, ◌&&◌, true≢false}
 use mathlib.Core.Path.{◌≡◌, refl, sym, ap, ◌∙◌}
-use mathlib.Core.List.{List, [], ◌∷◌}
+use mathlib.Core.List.{List, [], ◌∷◌, ◌++◌}
 use native.Mathlib.Omega.{arith}
 use lib.Dec.{eqb}
-use lib.ListN.{length, get_or, drop, length-drop, drop_of_length-le}
+use lib.ListN.{length, get_or, drop, length-drop}
 use lib.Seq.{drop-drop}
 use borrow.Author.Tests.{eq-eqb, ne_eqb, eqb-true}
 use Rattle.lists.proofs.Facts.{and_true, true_and}
-use Rattle.lists.proofs.Lists.{drop_one, drop_two}
 use Rattle.frames.specs.Frame.{total}
 use Rattle.frames.specs.Ranges.{within}
 use Rattle.frames.proofs.RangeLaws.{within_high}
-use Rattle.digits.specs.declared.Scan.TheVariants.{Broken, Whole}
+use Rattle.std.specs.Prelude.{Some, None}
+use Rattle.digits.specs.declared.Scanned.{Scanned}
 use Rattle.digits.specs.Digits.{is_digit, line, digit, Line, broken, push, line_of, bytes_of, rest_of}
 use Rattle.digits.specs.Steps.Scan.{scanned, are_digits, spelled}
 
@@ -47,28 +47,35 @@ line_bad : (x y : ℕ) (t : List ℕ) → eqb x 10 ≡ false → (is_digit x && 
 unfolding line_of
 line_bad x y t e d = rw (e, d)
 
--- ---- the same at a place of a text
-module _ (t : List ℕ) (i : ℕ) where
-  pub end_at : i < length t → get_or t i 0 ≡ 10 → line_of (drop i t) ≡ line [] (drop (i + 1) t)
-  end_at h e = rw (drop_one t i h) (line_end_lem _ _ (eq-eqb _ _ e))
+-- ---- the same where two bytes, or the last one, come off the front of what is left of a text
+pub end_front : (x l : List ℕ) → 0 < length x → get_or x 0 0 ≡ 10 → (r : List ℕ) × (line_of (x ++ l) ≡ line [] r)
+end_front [] l h e = absurd (omega arith)
+end_front (a ∷ x) l h e = (x ++ l, line_end_lem a (x ++ l) (eq-eqb a 10 e))
 
-  pub odd_at : i < length t → length t - i < 2 → (get_or t i 0 ≡ 10 → ⊥) → line_of (drop i t) ≡ broken
-  odd_at h o e = rw (drop_one t i h, drop_of_length-le t {i = i + 1} (omega arith)) (line_odd _ (ne_eqb _ _ e))
+pub odd_front : (x l : List ℕ) → length x < 2 → length x ≡ min 2 (length (x ++ l)) → (get_or x 0 0 ≡ 10 → ⊥) → line_of (x ++ l) ≡ broken
+unfolding line_of
+odd_front [] [] h m e = refl
+odd_front [] (b ∷ l) h m e = absurd (omega arith)
+odd_front (a ∷ []) [] h m e = line_odd a (ne_eqb a 10 e)
+odd_front (a ∷ []) (b ∷ l) h m e = absurd (omega arith)
+odd_front (a ∷ b ∷ x) l h m e = absurd (omega arith)
 
-  pub pair_at_lem : i + 1 < length t → (get_or t i 0 ≡ 10 → ⊥) → (is_digit (get_or t i 0) && is_digit (get_or t (i + 1) 0)) ≡ true
-      → line_of (drop i t) ≡ push (16 * digit (get_or t i 0) + digit (get_or t (i + 1) 0)) (line_of (drop (i + 2) t))
-  pair_at_lem h e d = rw (drop_two t i h) (line_pair _ _ _ (ne_eqb _ _ e) d)
+pub bad_front : (x l : List ℕ) → length x ≡ 2 → (get_or x 0 0 ≡ 10 → ⊥) → (is_digit (get_or x 0 0) && is_digit (get_or x 1 0)) ≡ false
+    → line_of (x ++ l) ≡ broken
+bad_front [] l h e d = absurd (omega arith)
+bad_front (a ∷ []) l h e d = absurd (omega arith)
+bad_front (a ∷ b ∷ []) l h e d = line_bad a b l (ne_eqb a 10 e) d
+bad_front (a ∷ b ∷ c ∷ x) l h e d = absurd (omega arith)
 
-  pub bad_at : i + 1 < length t → (get_or t i 0 ≡ 10 → ⊥) → (is_digit (get_or t i 0) && is_digit (get_or t (i + 1) 0)) ≡ false
-      → line_of (drop i t) ≡ broken
-  bad_at h e d = rw (drop_two t i h) (line_bad _ _ _ (ne_eqb _ _ e) d)
-
-  pub none_at : length t ≤ i → line_of (drop i t) ≡ broken
-  unfolding line_of
-  none_at h = rw (drop_of_length-le t {i = i} h)
+pub pair_front : (x l : List ℕ) → length x ≡ 2 → (get_or x 0 0 ≡ 10 → ⊥) → (is_digit (get_or x 0 0) && is_digit (get_or x 1 0)) ≡ true
+    → line_of (x ++ l) ≡ push (16 * digit (get_or x 0 0) + digit (get_or x 1 0)) (line_of l)
+pair_front [] l h e d = absurd (omega arith)
+pair_front (a ∷ []) l h e d = absurd (omega arith)
+pair_front (a ∷ b ∷ []) l h e d = line_pair a b l (ne_eqb a 10 e) d
+pair_front (a ∷ b ∷ c ∷ x) l h e d = absurd (omega arith)
 
 -- ---- what a scan answers
-pub scanned_end : (c s : ℕ) (r : List ℕ) → s < 256 → scanned c s (line [] r) ≡ Whole c s
+pub scanned_end : (c s : ℕ) (r : List ℕ) → s < 256 → scanned c s (line [] r) ≡ Some (record { count = c; sum = s })
 unfolding total scanned
 scanned_end c s r h =
     let e : c + 0 ≡ c = omega arith in
@@ -145,22 +152,23 @@ whole_line (suc n) (x ∷ y ∷ t) h d e =
     ∙ ap (push (16 * digit x + digit y)) (whole_line n t (omega arith) q.1 (rw f at e)))
 
 -- ---- what a scan tells
-pub record Scanned (count sum : ℕ) (l : Line) : Type 0 where
-  pub count_is : length (bytes_of l) ≡ count
-  pub sum_is : total (bytes_of l) % 256 ≡ sum
+pub record LineScanned (scan : Scanned) (l : Line) : Type 0 where
+  pub count_is : length (bytes_of l) ≡ scan.count
+  pub sum_is : total (bytes_of l) % 256 ≡ scan.sum
 
-pub scan_tells : {count sum : ℕ} (l : Line) → Whole count sum ≡ scanned 0 0 l → Scanned count sum l
+pub scan_tells : {scan : Scanned} (l : Line) → Some scan ≡ scanned 0 0 l → LineScanned scan l
 unfolding scanned
-scan_tells broken e = let z : ◌≡◌ {A = ℕ} 0 1 = cc in absurd (omega (arith, z))
-scan_tells {count} {sum} (line bs r) e =
-    let f : count ≡ 0 + length bs = cc in
-    let g : sum ≡ (0 + total bs) % 256 = cc in
+scan_tells broken e = cc
+scan_tells {scan} (line bs r) e =
+    let f : scan ≡ record { count = 0 + length bs; sum = (0 + total bs) % 256 } = cc in
+    let g : scan.count ≡ 0 + length bs = ap (λ (x : Scanned). x.count) f in
+    let h : scan.sum ≡ (0 + total bs) % 256 = ap (λ (x : Scanned). x.sum) f in
     record { count_is = omega arith; sum_is = omega arith }
 
-pub scan_breaks : (l : Line) → Broken ≡ scanned 0 0 l → bytes_of l ≡ []
+pub scan_breaks : (l : Line) → None ≡ scanned 0 0 l → bytes_of l ≡ []
 unfolding scanned
 scan_breaks broken e = refl
-scan_breaks (line bs r) e = let z : ◌≡◌ {A = ℕ} 0 1 = cc in absurd (omega (arith, z))
+scan_breaks (line bs r) e = cc
 
 -- ---- a line of a known length: its bytes, and the text after it
 spelled_line : (t : List ℕ) (l : Line) → Fronts t l → bytes_of l ≡ spelled (length (bytes_of l)) t

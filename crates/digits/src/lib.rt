@@ -14,6 +14,7 @@ pub struct Scanned {
 }
 
 // Lowercase digits are none.
+#[tactic(auto, unfolding(crate::specs::Digits::is_digit))]
 pub fn is_digit(x: u8) -> bool
     ensures { result ≡ is_digit x }
 {
@@ -21,6 +22,7 @@ pub fn is_digit(x: u8) -> bool
 }
 
 // The value of a digit, 0 for what is none.
+#[tactic(auto, unfolding(crate::specs::Digits::digit))]
 pub fn digit_of(x: u8) -> u8
     ensures { (result ≡ digit x) × (result < 16) }
 {
@@ -49,14 +51,17 @@ pub fn scan_line(text: &[u8], at: usize) -> Option<Scanned>
     let mut count: usize = 0;
     let mut sum: usize = 0;
     for pair in text[at..].chunks(2) {
-        match pair {
-            [10, ..] => return Some(Scanned { count, sum }),
-            [x, y] if is_digit(*x) & is_digit(*y) => {
-                sum = (sum + byte_of(digit_of(*x), digit_of(*y)) as usize) % 256;
-                count += 1;
-            }
-            _ => return None,
+        if pair[0] == 10 {
+            return Some(Scanned { count, sum });
         }
+        let [x, y] = *pair else {
+            return None;
+        };
+        if !(is_digit(x) & is_digit(y)) {
+            return None;
+        }
+        sum = (sum + byte_of(digit_of(x), digit_of(y)) as usize) % 256;
+        count += 1;
     }
     None
 }
@@ -68,9 +73,10 @@ fn values_of(text: &[u8], at: usize, values: &mut [u8]) -> bool
     ensures { Valued (length values.old) (drop at text.now) values.new result }
 {
     let mut good = true;
-    for (value, x) in values.iter_mut().zip(&text[at..]) {
-        *value = digit_of(*x);
-        good &= is_digit(*x);
+    for (k, value) in values.iter_mut().enumerate() {
+        let x = text[at + k];
+        *value = digit_of(x);
+        good &= is_digit(x);
     }
     good
 }
@@ -80,8 +86,8 @@ fn join_values(values: &[u8], bytes: &mut [u8])
     requires { (length values.now ≡ 2 * length bytes.old) × ((i : ℕ) → get_or values.now i 0 < 16) }
     ensures { bytes.new ≡ paired (length bytes.old) values.now }
 {
-    for (byte, pair) in bytes.iter_mut().zip(values.chunks_exact(2)) {
-        *byte = byte_of(pair[0], pair[1]);
+    for (k, byte) in bytes.iter_mut().enumerate() {
+        *byte = byte_of(values[2 * k], values[2 * k + 1]);
     }
 }
 

@@ -3,10 +3,6 @@ use native.Mathlib.Omega.{arith}
 use lib.ListN.{length-take}
 use Rattle.digits.proofs.decode_part.Goals as goal
 
-pub slice_bounds-decode_by-end : goal.slice_bounds-decode_by-end
-slice_bounds-decode_by-end c =
-    simp length-take (omega arith)
-
 pub decode_by-requires : goal.decode_by-requires
 decode_by-requires c =
     (omega arith, simp length-take (omega arith))

@@ -1,6 +1,4 @@
 -- The loop's invariant: the bytes filled so far are the pairs passed, joined (`Filling`).
-use Prim.Native.Nat.{◌-◌}
-use lib.ListN.{length}
 use Rattle.digits.specs.Steps.Scan.{pair_at}
 use Rattle.digits.proofs.DecodeLaws.{Filling}
 use Rattle.digits.proofs.join_values.Given as goal
@@ -8,7 +6,3 @@ use Rattle.digits.proofs.join_values.Given as goal
 abbrev pub invariant-loop-k : goal.invariant-loop-k
 invariant-loop-k l =
     Filling pair_at 2 l.values l.initial.bytes l.bytes l.k
-
-abbrev pub decreases-loop-k : goal.decreases-loop-k
-decreases-loop-k l =
-    length l.initial.bytes - l.k

@@ -1,112 +1,79 @@
--- The loop's invariant: what the line from i answers, with the count and the sum so far, is the answer for the line at `at`. Each return is one
--- clause of `line_of` at i.
-use Prim.Native.Nat.{ℕ, ◌+◌, ◌*◌, ◌-◌, ◌%◌, ◌≤◌, ◌<◌}
+-- Each return is one clause of `line_of` at what is left of the text: a pair of bytes, or the last one, came off its front.
+use Prim.Native.Nat.{ℕ, ◌+◌, ◌*◌, ◌%◌, ◌<◌}
 use mathlib.Core.Bool.{Bool, true, false, ◌&&◌}
-use mathlib.Core.List.{List}
-use mathlib.Core.Path.{◌≡◌, refl, sym, ap, ap₂, ◌∙◌, subst₂}
+use mathlib.Core.List.{List, [], ◌∷◌, ◌++◌}
+use mathlib.Core.Path.{◌≡◌, sym, ap, ap₂, ◌∙◌, subst₂}
 use native.Mathlib.Omega.{arith}
-use lib.ListN.{length, drop, get_or}
-use Rattle.digits.specs.declared.Scan.TheVariants.{Broken, Whole}
+use lib.ListN.{length, drop, get_or, length-append}
+use Rattle.std.specs.Slice.Iter.{chunks_rest}
+use Rattle.std.specs.Prelude.{Some, None}
 use Rattle.digits.specs.Digits.{broken, push, line_of, digit, is_digit}
 use Rattle.digits.specs.Steps.Scan.{scanned}
-use Rattle.digits.proofs.DigitLaws.{end_at, odd_at, pair_at_lem, bad_at, none_at, scanned_end, scanned_push}
+use Rattle.digits.proofs.DigitLaws.{end_front, odd_front, bad_front, pair_front, scanned_end, scanned_push}
 use Rattle.digits.proofs.scan_line.Invariants.{Scanning}
 use Rattle.digits.proofs.scan_line.Goals as goal
 
-module _ {t : List ℕ} {at i count sum : ℕ} (w : Scanning t at i count sum) where
-  ends : i < length t → get_or t i 0 ≡ 10 → Whole count sum ≡ scanned 0 0 (line_of (drop at t))
-  ends l e = sym (scanned_end count sum (drop (i + 1) t) w.small) ∙ ap (scanned count sum) (sym (end_at t i l e)) ∙ w.whole
+module _ {t : List ℕ} {at size count sum : ℕ} {left : List ℕ} (w : Scanning t at size left count sum) (x l : List ℕ) (cut : left ≡ x ++ l) where
+  whole : scanned count sum (line_of (x ++ l)) ≡ scanned 0 0 (line_of (drop at t))
+  whole = ap (λ (u : List ℕ). scanned count sum (line_of u)) (sym cut) ∙ w.whole
 
-  breaks : line_of (drop i t) ≡ broken → Broken ≡ scanned 0 0 (line_of (drop at t))
+  breaks : line_of (x ++ l) ≡ broken → None ≡ scanned 0 0 (line_of (drop at t))
   unfolding scanned
-  breaks e = ap (scanned count sum) (sym e) ∙ w.whole
+  breaks e = ap (scanned count sum) (sym e) ∙ whole
 
-  odd : i < length t → length t - i < 2 → (get_or t i 0 ≡ 10 → ⊥) → Broken ≡ scanned 0 0 (line_of (drop at t))
-  odd h o e = breaks (odd_at t i h o e)
+  ends : 0 < length x → get_or x 0 0 ≡ 10 → Some (record { count = count; sum = sum }) ≡ scanned 0 0 (line_of (drop at t))
+  ends h e =
+      let f = end_front x l h e in
+      sym (scanned_end count sum f.0 w.small) ∙ ap (scanned count sum) (sym f.1) ∙ whole
 
-  no_digits : i + 1 < length t → (get_or t i 0 ≡ 10 → ⊥) → (is_digit (get_or t i 0) && is_digit (get_or t (i + 1) 0)) ≡ false
-      → Broken ≡ scanned 0 0 (line_of (drop at t))
-  no_digits h e d = breaks (bad_at t i h e d)
-
-  not_ended : length t ≤ i → Broken ≡ scanned 0 0 (line_of (drop at t))
-  not_ended h = breaks (none_at t i h)
-
-  goes_on : {b : ℕ} → i + 1 < length t → (get_or t i 0 ≡ 10 → ⊥) → (is_digit (get_or t i 0) && is_digit (get_or t (i + 1) 0)) ≡ true
-      → b ≡ 16 * digit (get_or t i 0) + digit (get_or t (i + 1) 0) → Scanning t at (i + 2) (count + 1) ((sum + b) % 256)
-  goes_on {b} l e d h =
+  goes_on : {b size' : ℕ} → size' ≡ size → length x ≡ 2 → (get_or x 0 0 ≡ 10 → ⊥) → (is_digit (get_or x 0 0) && is_digit (get_or x 1 0)) ≡ true
+      → b ≡ 16 * digit (get_or x 0 0) + digit (get_or x 1 0) → Scanning t at size' l (count + 1) ((sum + b) % 256)
+  goes_on {b} s n e d h =
       record {
-        low = omega arith;
-        few = omega arith;
+        twos = s ∙ w.twos;
+        few = omega (arith, w.few, ap length cut, length-append x l);
         small = omega arith;
         whole =
-            sym (scanned_push count sum b (line_of (drop (i + 2) t)))
-            ∙ ap (λ (x : ℕ). scanned count sum (push x (line_of (drop (i + 2) t)))) h
-            ∙ ap (scanned count sum) (sym (pair_at_lem t i l e d)) ∙ w.whole;
+            sym (scanned_push count sum b (line_of l)) ∙ ap (λ (y : ℕ). scanned count sum (push y (line_of l))) h
+            ∙ ap (scanned count sum) (sym (pair_front x l n e d)) ∙ whole;
       }
 
-pub loop-i-init : goal.loop-i-init
-loop-i-init c =
-    record { low = omega arith; few = omega arith; small = omega arith; whole = refl }
+none_left : {t : List ℕ} {at size count sum : ℕ} {left : List ℕ} → Scanning t at size left count sum → length left ≡ 0
+    → None ≡ scanned 0 0 (line_of (drop at t))
+unfolding scanned line_of
+none_left {left = []} w e = w.whole
+none_left {left = a ∷ l} w e = absurd (omega arith)
 
-pub bounds-text-i : goal.bounds-text-i
-bounds-text-i c =
-    omega arith
+pub returns-then-pair-eq10 : goal.returns-then-pair-eq10
+returns-then-pair-eq10 c =
+    let n = c.in-Some.ensures.steps.1 in
+    ends c.loop-pair.invariant c.in-Some.pair.now (chunks_rest c.next.new.self) n.0 (omega (arith, n.1, n.2, c.loop-pair.invariant.twos))
+    c.if-pair-eq10.true
 
-pub returns-then-x-eq10 : goal.returns-then-x-eq10
-returns-then-x-eq10 c =
-    ends c.loop-i.invariant (omega arith) c.if-x-eq10.true
+pub returns-in_default : goal.returns-in_default
+returns-in_default c =
+    let w = c.loop-pair.invariant in
+    let n = c.in-Some.ensures.steps.1 in
+    let x = c.in-Some.pair.now in
+    let l = chunks_rest c.next.new.self in
+    breaks w x l n.0 (odd_front x l c.in_default.len_below (omega (arith, n.1, ap length n.0, w.twos)) c.if-pair-eq10.false)
 
-pub overflow_sub-text : goal.overflow_sub-text
-overflow_sub-text c =
-    omega arith
+pub returns-then-not-is_digit : goal.returns-then-not-is_digit
+returns-then-not-is_digit c =
+    let x = c.in-Some.pair.now in
+    let l = chunks_rest c.next.new.self in
+    breaks c.loop-pair.invariant x l c.in-Some.ensures.steps.1.0
+    (bad_front x l (omega arith) c.if-pair-eq10.false
+    (subst₂ (λ (a b : Bool). (a && b) ≡ false) c.is_digit.ensures c.is_digit-in-loop-pair.ensures c.if-not-is_digit.true))
 
-pub returns-then-text-i-lt2 : goal.returns-then-text-i-lt2
-returns-then-text-i-lt2 c =
-    odd c.loop-i.invariant (omega arith) (omega arith) c.if-x-eq10.false
-
-pub overflow_add-y : goal.overflow_add-y
-overflow_add-y c =
-    omega arith
-
-pub bounds-text-i-in-loop-i : goal.bounds-text-i-in-loop-i
-bounds-text-i-in-loop-i c =
-    omega arith
-
-pub byte_of-requires : goal.byte_of-requires
-byte_of-requires c =
-    (c.digit_of.ensures.1, c.digit_of-then-is_digit.ensures.1)
-
-pub overflow_cast-sum : goal.overflow_cast-sum
-overflow_cast-sum c =
-    omega arith
-
-pub overflow_add-sum : goal.overflow_add-sum
-overflow_add-sum c =
-    omega arith
-
-pub overflow_add-count : goal.overflow_add-count
-overflow_add-count c =
-    omega arith
-
-pub overflow_add-i : goal.overflow_add-i
-overflow_add-i c =
-    omega arith
-
-pub loop-i-smaller : goal.loop-i-smaller
-loop-i-smaller c =
-    omega arith
-
-pub loop-i-preserved : goal.loop-i-preserved
-loop-i-preserved c =
-    goes_on c.loop-i.invariant (omega arith) c.if-x-eq10.false
-    (subst₂ (λ (a b : Bool). (a && b) ≡ true) c.is_digit.ensures c.is_digit-in-loop-i.ensures c.if-is_digit.true)
-    (c.byte_of.ensures ∙ ap₂ (λ (x y : ℕ). 16 * x + y) c.digit_of.ensures.0 c.digit_of-then-is_digit.ensures.0)
-
-pub returns-else-is_digit : goal.returns-else-is_digit
-returns-else-is_digit c =
-    no_digits c.loop-i.invariant (omega arith) c.if-x-eq10.false
-    (subst₂ (λ (a b : Bool). (a && b) ≡ false) c.is_digit.ensures c.is_digit-in-loop-i.ensures c.if-is_digit.false)
+pub loop-pair-preserved : goal.loop-pair-preserved
+loop-pair-preserved c =
+    let x = c.in-Some.pair.now in
+    goes_on c.loop-pair.invariant x (chunks_rest c.next.new.self) c.in-Some.ensures.steps.1.0 c.in-Some.ensures.steps.0 (omega arith)
+    c.if-pair-eq10.false
+    (subst₂ (λ (a b : Bool). (a && b) ≡ true) c.is_digit.ensures c.is_digit-in-loop-pair.ensures c.if-not-is_digit.false)
+    (c.byte_of.ensures ∙ ap₂ (λ (x y : ℕ). 16 * x + y) c.digit_of.ensures.0 c.digit_of-in-loop-pair.ensures.0)
 
 pub returns : goal.returns
 returns c =
-    not_ended c.loop-i.invariant (omega arith)
+    none_left c.loop-pair.invariant c.in-None.ensures.steps.1.0

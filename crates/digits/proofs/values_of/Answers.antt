@@ -3,12 +3,11 @@ use Prim.Native.Nat.{ℕ, ◌+◌, ◌≤◌, ◌<◌}
 use mathlib.Core.Bool.{Bool, ◌&&◌}
 use mathlib.Core.List.{List}
 use mathlib.Core.Path.{◌≡◌, ap, ◌∙◌}
-use native.Mathlib.Nat.{sub-zero}
 use native.Mathlib.Omega.{arith}
 use lib.ListN.{length, drop, get_or, set}
 use Rattle.digits.specs.Digits.{is_digit, digit}
 use Rattle.digits.specs.Steps.Scan.{Valued}
-use Rattle.digits.proofs.DecodeLaws.{filling_starts, filling_goes_on, filling_ends, digits_step, digits_end, value_here}
+use Rattle.digits.proofs.DecodeLaws.{filling_goes_on, filling_ends, digits_step, digits_end, value_here}
 use Rattle.digits.proofs.values_of.Invariants.{Valuing}
 use Rattle.digits.proofs.values_of.Goals as goal
 
@@ -23,30 +22,6 @@ module _ {t : List ℕ} {at : ℕ} {d₀ d : List ℕ} {good : Bool} {k : ℕ} (
 
   done : length d ≤ k → Valued (length d₀) (drop at t) d good
   done l = record { values = filling_ends w.filled l; digits = digits_end good (length d₀) k (drop k (drop at t)) (omega (arith, w.filled.long)) ∙ w.digits }
-
-pub loop-k-init : goal.loop-k-init
-loop-k-init c =
-    record { filled = filling_starts _ _ _ _; digits = rw sub-zero }
-
-pub overflow_add-x : goal.overflow_add-x
-overflow_add-x c =
-    omega (arith, c.loop-k.invariant.filled.long)
-
-pub bounds-text-at : goal.bounds-text-at
-bounds-text-at c =
-    omega (arith, c.loop-k.invariant.filled.long)
-
-pub bounds-values-k : goal.bounds-values-k
-bounds-values-k c =
-    omega arith
-
-pub overflow_add-k : goal.overflow_add-k
-overflow_add-k c =
-    omega arith
-
-pub loop-k-smaller : goal.loop-k-smaller
-loop-k-smaller c =
-    omega arith
 
 pub loop-k-preserved : goal.loop-k-preserved
 loop-k-preserved c =

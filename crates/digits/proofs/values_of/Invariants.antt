@@ -15,7 +15,3 @@ pub record Valuing (t : List ℕ) (at : ℕ) (d₀ d : List ℕ) (good : Bool) (
 abbrev pub invariant-loop-k : goal.invariant-loop-k
 invariant-loop-k l =
     Valuing l.text l.at l.initial.values l.values l.good l.k
-
-abbrev pub decreases-loop-k : goal.decreases-loop-k
-decreases-loop-k l =
-    length l.initial.values - l.k
