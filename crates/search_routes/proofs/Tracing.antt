@@ -17,14 +17,6 @@ use Rattle.lists.specs.Placed.{placed}
 use Rattle.lists.proofs.PlacedLaws.{tail_back}
 use Rattle.search_routes.specs.Steps.Trace.{Traced, Ends}
 
--- a chain has a first run and a last
-pub traced_some : {n : ℕ} {previous : ℕ → ℕ} {r k : ℕ} → Traced n previous r k → (1 ≤ k) × (r < n)
-traced_some {n} {previous} {r} {k} T = go k T.depth
-  where
-    go : (k : ℕ) → Depth n previous k r → (1 ≤ k) × (r < n)
-    go zero d = absurd d
-    go (suc k) d = (omega arith, d.0)
-
 -- k runs of the chain from r are counted, and p is the number before them
 pub record Counted (n : ℕ) (previous : ℕ → ℕ) (r p k : ℕ) : Type 0 where
   pub left : ℕ
@@ -32,16 +24,9 @@ pub record Counted (n : ℕ) (previous : ℕ → ℕ) (r p k : ℕ) : Type 0 whe
   pub whole : Depth n previous (k + left) r
   pub few : k + left ≤ n
 
-pub counted_one : {n : ℕ} {previous : ℕ → ℕ} {r : ℕ} → Ends n previous r → Counted n previous r (previous r) 1
-counted_one {n} {previous} {r} (k, T) = go k T.depth T.few
-  where
-    go : (k : ℕ) → Depth n previous k r → k ≤ n → Counted n previous r (previous r) 1
-    go zero d l = absurd d
-    go (suc k) d l = record { left = k; rest = d.1; whole = rw (one-add k) d; few = omega arith }
-
 module _ {n : ℕ} {previous : ℕ → ℕ} {r p k : ℕ} (C : Counted n previous r p k) where
   -- a run comes before
-  pub counted_inside : p < unlabelled → (p < n) × Depth n previous C.left p
+  counted_inside : p < unlabelled → (p < n) × Depth n previous C.left p
   counted_inside l =
       ⊎_elim
       (λ (s : (p ≡ unlabelled) × (C.left ≡ 0)). absurd (omega arith))
@@ -56,14 +41,6 @@ module _ {n : ℕ} {previous : ℕ → ℕ} {r p k : ℕ} (C : Counted n previou
       go (suc left) d h f =
           let e : k + 1 + left ≡ k + suc left = omega arith in
           record { left = left; rest = d.1; whole = rw e h; few = omega arith }
-
-  -- none does
-  pub counted_all : n ≤ unlabelled → unlabelled ≤ p → Traced n previous r k
-  counted_all small l =
-      ⊎_elim
-      (λ (s : (p ≡ unlabelled) × (C.left ≡ 0)). record { depth = rw (s.1, add-zero k) at C.whole; few = omega (arith, C.few) })
-      (λ (s : (p < n) × Depth n previous C.left p). absurd (omega arith))
-      C.rest
 
 -- the first k runs of the chain of `previous` from r are runs below n
 abbrev pub Runs : ℕ → (ℕ → ℕ) → ℕ → ℕ → Type 0
@@ -81,10 +58,6 @@ depth_runs n previous (suc k) r d =
 pub traced_runs : {n : ℕ} {previous : ℕ → ℕ} {r k : ℕ} → Traced n previous r k → Runs n previous k r
 traced_runs {n} {previous} {r} {k} T = depth_runs n previous k r T.depth
 
-pub runs_inside : (n : ℕ) (previous : ℕ → ℕ) (i q : ℕ) → 0 < i → Runs n previous i q → q < n
-runs_inside n previous zero q l h = absurd (not-suc-le-zero l)
-runs_inside n previous (suc i) q l h = h.0
-
 -- the runs after a chain stand after it
 pub chain_append : (previous : ℕ → ℕ) (k r : ℕ) (xs ys : List ℕ) → chain previous k r (xs ++ ys) ≡ chain previous k r xs ++ ys
 chain_append previous zero r xs ys = refl
@@ -99,39 +72,6 @@ pub record Filled (n : ℕ) (previous : ℕ → ℕ) (k r : ℕ) (before : List 
 
 pub filled_none : {n : ℕ} {previous : ℕ → ℕ} {r k : ℕ} → Traced n previous r k → (before : List ℕ) → Filled n previous k r before k r before
 filled_none T before = record { some = omega arith; same = refl; runs = traced_runs T; text = refl }
-
--- one store from the back
-store : (i q : ℕ) (tail : List ℕ) → i < length tail → drop i (set tail i q) ≡ q ∷ drop (suc i) tail
-store i q tail l =
-    drop-cons (set tail i q) i 0 (lt-length-set tail i q l)
-    ∙ ap (λ (x : ℕ). x ∷ drop (suc i) (set tail i q)) (get_or-set_same tail i q 0 l)
-    ∙ ap (λ (xs : List ℕ). q ∷ xs) (drop-set-lt (suc i) tail i q (omega arith))
-
-module _ {n : ℕ} {previous : ℕ → ℕ} {k r : ℕ} {before : List ℕ} {i q : ℕ} {after : List ℕ} (H : Filled n previous k r before i q after) where
-  pub filled_inside : 0 < i → q < n
-  filled_inside l = runs_inside n previous i q l H.runs
-
-  pub filled_more : 0 < i → k ≤ length before → Filled n previous k r before (i - 1) (previous q) (set after (i - 1) q)
-  filled_more l room = go i l H.some H.runs H.text
-    where
-      back : (j : ℕ) → suc j - 1 ≡ j
-      back j = omega arith
-
-      go : (i : ℕ) → 0 < i → i ≤ k → Runs n previous i q → chain previous i q (drop i after) ≡ chain previous k r (drop k before)
-          → Filled n previous k r before (i - 1) (previous q) (set after (i - 1) q)
-      go zero z s h t = absurd (not-suc-le-zero z)
-      go (suc j) z s h t =
-          rw (back j)
-          (record {
-            some = omega arith;
-            same = simp length-set H.same;
-            runs = h.1;
-            text = ap (chain previous j (previous q)) (store j q after (omega (arith, H.same))) ∙ t;
-          })
-
-  -- all are written
-  pub filled_all : i ≡ 0 → after ≡ chain previous k r (drop k before)
-  filled_all z = rw z at H.text
 
 -- the buffer with its tail, from the place to its end, lent and written
 pub tail_placed : {n : ℕ} {previous : ℕ → ℕ} {r k : ℕ} → Traced n previous r k → (place : ℕ) (before : List ℕ) {tail : List ℕ}

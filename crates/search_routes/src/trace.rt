@@ -12,7 +12,6 @@ ghost use Rattle.search_routes.specs.Steps.Trace.{Traced, Ends, Fillable, Levell
 use search_labels::NONE;
 use streets::movements::{arrival_of, level_onto};
 use streets::runs::{leaving_leg, run_level};
-use stress::segment::greater;
 
 // The number of runs in the chain.
 pub fn count_runs(previous: &[u32], n: usize, last: usize) -> usize
@@ -33,12 +32,10 @@ pub fn fill(previous: &[u32], n: usize, last: usize, count: usize, tail: &mut [u
     requires { Fillable n previous.now last count tail.old }
     ensures { tail.new ≡ chain (at previous.now) count last (drop count tail.old) }
 {
-    let mut place = count;
     let mut run = last;
-    while 0 < place {
-        tail[place - 1] = run as u16;
+    for place in (0..count).rev() {
+        tail[place] = run as u16;
         run = previous[run] as usize;
-        place -= 1;
     }
 }
 
@@ -64,13 +61,11 @@ pub fn route_level(
 {
     let mut level = run_level(net, last);
     let mut next = last;
-    let mut before = count - 1;
-    while 0 < before {
+    for _ in 1..count {
         let run = previous[next] as usize;
-        let onto = greater(movement_level(net, index, run, next), level);
-        level = greater(run_level(net, run), onto);
+        let onto = movement_level(net, index, run, next).max(level);
+        level = run_level(net, run).max(onto);
         next = run;
-        before -= 1;
     }
     level
 }

@@ -7,7 +7,3 @@ use Rattle.search_routes.proofs.trace.fill.Given as goal
 abbrev pub invariant-loop-place : goal.invariant-loop-place
 invariant-loop-place l =
     Filled l.n (at l.previous) l.count l.last l.initial.tail l.place l.run l.tail
-
-abbrev pub decreases-loop-place : goal.decreases-loop-place
-decreases-loop-place l =
-    l.place

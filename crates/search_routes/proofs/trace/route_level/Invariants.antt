@@ -5,10 +5,6 @@ use Rattle.streets.specs.Bicycle.{bicycle}
 use Rattle.search_routes.proofs.Levels.{Levelled}
 use Rattle.search_routes.proofs.trace.route_level.Given as goal
 
-abbrev pub invariant-loop-before : goal.invariant-loop-before
-invariant-loop-before l =
-    Levelled (bicycle l.net) l.n (at l.previous) l.count l.last l.before l.next l.level
-
-abbrev pub decreases-loop-before : goal.decreases-loop-before
-decreases-loop-before l =
-    l.before
+abbrev pub invariant-loop : goal.invariant-loop
+invariant-loop l =
+    Levelled (bicycle l.net) l.n (at l.previous) l.count l.last l.counter l.next l.level
