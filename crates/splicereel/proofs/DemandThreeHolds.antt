@@ -9,8 +9,10 @@ use mathlib.Core.Path.{◌≡◌, refl, sym, ◌∙◌, subst}
 use mathlib.Core.Bool.{true}
 use mathlib.Core.List.{List, [], ◌∷◌}
 use mathlib.Core.Logic.{◌↔◌}
+use Rattle.std.specs.Prelude.{Option, Some, None, Result, Ok, Err}
 use lib.ListN.{length}
 use borrow.Author.Tests.{le-leb, lt-ltb}
+use Rattle.refusals.specs.declared.Refusal.{Refusal}
 use Rattle.refusals.proofs.Positive.{positive}
 use Rattle.routes.specs.Streets.{Streets}
 use Rattle.routes.specs.Routes.{length_of, Within, NoRoute}
@@ -18,15 +20,12 @@ use Rattle.routes.proofs.Tolerance.{exists_rises, none_falls, shortest_falls, sh
 use Rattle.network.specs.Network.{nodes_of, is_network}
 use Rattle.streets.specs.Runs.{runs_of}
 use Rattle.streets.specs.Bicycle.{bicycle}
-use Rattle.routes.specs.declared.Found.{Found as FoundRoute}
+use Rattle.routes.specs.declared.Found.{Found}
+use Rattle.routes.specs.declared.LeastRoute.{LeastRoute}
 use Rattle.routes.specs.Written.{Written}
 use Rattle.streets.proofs.LeavingLaws.{run_feet}
-use Rattle.splicereel.specs.declared.route.RouteAnswer.{RouteAnswer}
-use Rattle.splicereel.specs.declared.route.RouteAnswer.TheVariants.{Refused, Nothing, Found}
-use Rattle.splicereel.specs.declared.least_stress.LeastAnswer.{LeastAnswer}
-use Rattle.splicereel.specs.declared.least_stress.LeastAnswer.TheVariants.{Refused, Nothing, Found}
 use Rattle.splicereel.specs.Finding.{nodes_refusal, fits, route_refusal, least_stress_refusal}
-use Rattle.splicereel.specs.Promises.{Lent, Told, none, found, refusal_in, LeastRoute, LeastFound, told_route, RouteHolds, told_least, LeastHolds}
+use Rattle.splicereel.specs.Promises.{Lent, Told, none, found, refusal_in, LeastFound, told_route, RouteHolds, told_least, LeastHolds}
 use Rattle.splicereel.specs.DemandThree.{InOrder, RouteCall, LeastCall, Finds, SomeRoute, Stands, OfRoute, OfLeast, Agree, DemandThree}
 
 -- ---- what an answer that is no refusal is
@@ -97,27 +96,27 @@ module _ {net : List ℕ} {from to t : ℕ} (call : RouteCall net from to t) whe
   abbrev Denied : Type 0
   Denied = NoRoute (bicycle net) t from to × (call.after.buffer ≡ call.before.buffer)
 
-  abbrev Drawn : FoundRoute → Type 0
+  abbrev Drawn : Found → Type 0
   Drawn route = Written (bicycle net) t from to call.place call.before.buffer call.after.buffer route
 
-  outcome : Outcome FoundRoute (told_route call.answer) Denied Drawn
+  outcome : Outcome Found (told_route call.answer) Denied Drawn
   outcome = go call.answer (call.returned.refusal ∙ route_unrefused call.in_order call.low call.high) call.returned.holds
     where
-      go : (answer : RouteAnswer) → refusal_in (told_route answer) ≡ 0
+      go : (answer : Result (Option Found) Refusal) → refusal_in (told_route answer) ≡ 0
           → RouteHolds (bicycle net) t from to call.place call.before call.after (told_route answer)
-          → Outcome FoundRoute (told_route answer) Denied Drawn
-      go (Refused why) e H = absurd (positive why e)
-      go Nothing e H = nothing refl H
-      go (Found route) e H = something route refl H
+          → Outcome Found (told_route answer) Denied Drawn
+      go (Err why) e H = absurd (positive why e)
+      go (Ok None) e H = nothing refl H
+      go (Ok (Some route)) e H = something route refl H
 
-  drawn_some : (route : FoundRoute) → Drawn route → SomeRoute (bicycle net) t from to
+  drawn_some : (route : Found) → Drawn route → SomeRoute (bicycle net) t from to
   drawn_some route W = (W.runs, W.shortest.within)
 
   denied_none : Denied → NoRoute (bicycle net) t from to
   denied_none D = D.0
 
 -- what is written stands
-written_stands : {g : Streets} {t a b place : ℕ} {before after : List ℕ} {told : FoundRoute} → Written g t a b place before after told
+written_stands : {g : Streets} {t a b place : ℕ} {before after : List ℕ} {told : Found} → Written g t a b place before after told
     → Stands g t a b place before after told
 written_stands W =
     record {
@@ -135,7 +134,7 @@ no_feet net is [] w l = refl
 no_feet net is (r ∷ rs) w l = absurd (omega (arith, (run_feet (record { network = is; inside = w.route.1.0 })).0))
 
 -- the three numbers of the empty route
-empty_told : (told : FoundRoute) → told.count ≡ 0 → told.length ≡ 0 → told.level ≡ 1 → told ≡ record { count = 0; length = 0; level = 1 }
+empty_told : (told : Found) → told.count ≡ 0 → told.length ≡ 0 → told.level ≡ 1 → told ≡ record { count = 0; length = 0; level = 1 }
 empty_told told c l v =
     subst (λ (n : ℕ). told ≡ record { count = n; length = 0; level = 1 }) c
     (subst (λ (n : ℕ). told ≡ record { count = told.count; length = n; level = 1 }) l
@@ -148,7 +147,7 @@ module _ {net : List ℕ} {from t : ℕ} (call : RouteCall net from from t) wher
       stay : Within (bicycle net) t from from []
       stay = record { route = refl; level = call.low }
 
-      go : Outcome FoundRoute (told_route call.answer) (Denied call) (Drawn call)
+      go : Outcome Found (told_route call.answer) (Denied call) (Drawn call)
           → told_route call.answer ≡ found (record { count = 0; length = 0; level = 1 })
       go (nothing e D) = absurd (D.0 [] stay)
       go (something route e W) =
@@ -170,15 +169,15 @@ route_keeps {net} {from} {to} {t} call =
 
 -- ---- rising tolerances
 rises : {net : List ℕ} {from to t u : ℕ} (call : RouteCall net from to t) (higher : RouteCall net from to u) → t ≤ u
-    → (route : FoundRoute) → told_route call.answer ≡ found route
-    → (other : FoundRoute) × (told_route higher.answer ≡ found other) × (other.length ≤ route.length)
+    → (route : Found) → told_route call.answer ≡ found route
+    → (other : Found) × (told_route higher.answer ≡ found other) × (other.length ≤ route.length)
 rises {net} {from} {to} {t} {u} call higher l route e = go (outcome higher)
   where
     W : Drawn call route
     W = at_found (outcome call) route e
 
-    go : Outcome FoundRoute (told_route higher.answer) (Denied higher) (Drawn higher)
-        → (other : FoundRoute) × (told_route higher.answer ≡ found other) × (other.length ≤ route.length)
+    go : Outcome Found (told_route higher.answer) (Denied higher) (Drawn higher)
+        → (other : Found) × (told_route higher.answer ≡ found other) × (other.length ≤ route.length)
     go (nothing e' D) = absurd (none_falls l D.0 W.runs W.shortest.within)
     go (something other e' X) = (other, e', omega (arith, shortest_falls l W.shortest X.shortest, W.measured, X.measured))
 
@@ -193,12 +192,12 @@ module _ {net : List ℕ} {from to : ℕ} (call : LeastCall net from to) where
   least_outcome : Outcome LeastRoute (told_least call.answer) LeastDenied LeastDrawn
   least_outcome = go call.answer (call.returned.refusal ∙ least_unrefused call.in_order) call.returned.holds
     where
-      go : (answer : LeastAnswer) → refusal_in (told_least answer) ≡ 0
+      go : (answer : Result (Option LeastRoute) Refusal) → refusal_in (told_least answer) ≡ 0
           → LeastHolds (bicycle net) from to call.place call.before call.after (told_least answer)
           → Outcome LeastRoute (told_least answer) LeastDenied LeastDrawn
-      go (Refused why) e H = absurd (positive why e)
-      go Nothing e H = nothing refl H
-      go (Found route tolerance) e H = something (record { route = route; tolerance = tolerance }) refl H
+      go (Err why) e H = absurd (positive why e)
+      go (Ok None) e H = nothing refl H
+      go (Ok (Some least)) e H = something least refl H
 
   least_some : (least : LeastRoute) → LeastDrawn least → SomeRoute (bicycle net) 4 from to
   least_some least F = exists_rises F.most (F.drawn.runs, F.drawn.shortest.within)
@@ -219,14 +218,14 @@ module _ {net : List ℕ} {from to u : ℕ} (call : LeastCall net from to) (othe
   says_none never = (none_exactly (denied_none other) (drawn_some other) (outcome other)).1 never
 
   same_at : (x : LeastRoute) → told_least call.answer ≡ found x → u ≡ x.tolerance
-      → (y : FoundRoute) × (told_route other.answer ≡ found y) × (y.length ≡ x.route.length)
+      → (y : Found) × (told_route other.answer ≡ found y) × (y.length ≡ x.route.length)
   same_at x e s = go (outcome other)
     where
       W : Written (bicycle net) u from to call.place call.before.buffer call.after.buffer x.route
       W = rw s (at_found (least_outcome call) x e).drawn
 
-      go : Outcome FoundRoute (told_route other.answer) (Denied other) (Drawn other)
-          → (y : FoundRoute) × (told_route other.answer ≡ found y) × (y.length ≡ x.route.length)
+      go : Outcome Found (told_route other.answer) (Denied other) (Drawn other)
+          → (y : Found) × (told_route other.answer ≡ found y) × (y.length ≡ x.route.length)
       go (nothing e' D) = absurd (D.0 W.runs W.shortest.within)
       go (something y e' X) = (y, e', sym X.measured ∙ shortest_same_length X.shortest W.shortest ∙ W.measured)
 

@@ -9,23 +9,21 @@ use native.Mathlib.Omega.{arith}
 use mathlib.Core.Path.{◌≡◌, refl, sym, ◌∙◌, ap, ap₂, subst}
 use mathlib.Core.Bool.{true}
 use mathlib.Core.List.{List, [], ◌∷◌, ◌++◌}
+use Rattle.std.specs.Prelude.{Option, Some, None, Result, Ok, Err}
 use lib.ListN.{length, drop}
 use lib.Seq.{drop_at}
 use borrow.Author.Tests.{le-leb, lt-ltb}
+use Rattle.refusals.specs.declared.Refusal.{Refusal}
 use Rattle.refusals.proofs.Positive.{positive}
 use Rattle.routes.specs.Streets.{Streets}
 use Rattle.routes.specs.Reach.{LeastLength, Listed, ReachMap, numbers, MapWritten, is_marked, Nearest, NoneMarked}
 use Rattle.routes.specs.declared.Entry.{Entry}
-use Rattle.routes.specs.declared.Found.{Found as FoundRoute}
+use Rattle.routes.specs.declared.Found.{Found}
 use Rattle.routes.proofs.ReachMaps.{numbers_length, least_same, least_listed, start_listed, map_rises, map_same_length, map_unique}
 use Rattle.routes.proofs.NearestMarked.{nearest_some, nearest_unique, nearest_listed, nearest_first, none_listed}
 use Rattle.network.specs.Network.{nodes_of}
 use Rattle.streets.specs.Runs.{runs_of}
 use Rattle.streets.specs.Bicycle.{bicycle}
-use Rattle.splicereel.specs.declared.reach_map.MapAnswer.{MapAnswer}
-use Rattle.splicereel.specs.declared.reach_map.MapAnswer.TheVariants.{Refused, Listed as Counted}
-use Rattle.splicereel.specs.declared.nearest.NearestAnswer.{NearestAnswer}
-use Rattle.splicereel.specs.declared.nearest.NearestAnswer.TheVariants.{Refused, Nothing, Found}
 use Rattle.splicereel.specs.Finding.{reach_refusal}
 use Rattle.splicereel.specs.Promises.{Told, none, found, refusal_in, told_route}
 use Rattle.splicereel.specs.Reaching.{told_map, MapHolds, NearestFound, told_nearest, NearestHolds}
@@ -76,11 +74,11 @@ module _ {net : List ℕ} {from t greatest : ℕ} (call : MapCall net from t gre
   mapped : Mapped net from t greatest call.before.list call.after.list (told_map call.answer)
   mapped = go call.answer (call.returned.refusal ∙ unrefused call.in_order 2 _ call.list_fits) call.returned.holds
     where
-      go : (answer : MapAnswer) → refusal_in (told_map answer) ≡ 0
+      go : (answer : Result ℕ Refusal) → refusal_in (told_map answer) ≡ 0
           → MapHolds (bicycle net) (nodes_of net) t from greatest call.before call.after (told_map answer)
           → Mapped net from t greatest call.before.list call.after.list (told_map answer)
-      go (Refused why) e H = absurd (positive why e)
-      go (Counted count) e H = record { says = refl; written = H }
+      go (Err why) e H = absurd (positive why e)
+      go (Ok count) e H = record { says = refl; written = H }
 
   the_map : ReachMap (bicycle net) (nodes_of net) t from greatest (entries_told call)
   the_map = written_map mapped.written
@@ -105,20 +103,20 @@ same_lengths call farther l b feet k =
 
 -- ---- Route's lengths are the least
 module _ {net : List ℕ} {from b t : ℕ} (route : RouteCall net from b t) where
-  way_least : (way : FoundRoute) → told_route route.answer ≡ found way → LeastLength (bicycle net) t from b way.length
+  way_least : (way : Found) → told_route route.answer ≡ found way → LeastLength (bicycle net) t from b way.length
   way_least way e =
       let S = (demand_three.route route).stands way e in
       record { runs = S.runs; shortest = S.shortest; measured = sym S.own_length }
 
   least_way : {feet : ℕ} → LeastLength (bicycle net) t from b feet
-      → (way : FoundRoute) × (told_route route.answer ≡ found way) × (way.length ≡ feet)
+      → (way : Found) × (told_route route.answer ≡ found way) × (way.length ≡ feet)
   least_way D =
       let finds = (demand_three.route route).found_exactly.1 (D.runs, D.shortest.within) in
       (finds.0, finds.1, least_same (way_least finds.0 finds.1) D)
 
 module _ {net : List ℕ} {from b t greatest : ℕ} (map : MapCall net from t greatest) (route : RouteCall net from b t) where
   abbrev Way : ℕ → Type 0
-  Way feet = (way : FoundRoute) × (told_route route.answer ≡ found way) × (way.length ≡ feet) × (feet ≤ greatest)
+  Way feet = (way : Found) × (told_route route.answer ≡ found way) × (way.length ≡ feet) × (feet ≤ greatest)
 
   listed_way : (feet : ℕ) → Listed b feet (entries_told map) → Way feet
   listed_way feet k =
@@ -146,12 +144,12 @@ module _ {net : List ℕ} {from t : ℕ} {marks : List ℕ} (call : NearestCall 
   outcome =
       go call.answer (call.returned.refusal ∙ unrefused call.in_order 1 (length marks) (omega (arith, call.marks_fit))) call.returned.holds
     where
-      go : (answer : NearestAnswer) → refusal_in (told_nearest answer) ≡ 0
+      go : (answer : Result (Option Entry) Refusal) → refusal_in (told_nearest answer) ≡ 0
           → NearestHolds (bicycle net) (nodes_of net) t from marks call.before call.after (told_nearest answer)
           → Outcome Entry (told_nearest answer) Unmarked Met
-      go (Refused why) e H = absurd (positive why e)
-      go Nothing e H = nothing refl H
-      go (Found entry) e H = something entry refl H
+      go (Err why) e H = absurd (positive why e)
+      go (Ok None) e H = nothing refl H
+      go (Ok (Some entry)) e H = something entry refl H
 
   tells : (entry : Entry) → Nearest (bicycle net) (nodes_of net) t from marks entry → told ≡ found entry
   tells entry N = go outcome

@@ -8,13 +8,14 @@ use native.Mathlib.Omega.{arith}
 use Rattle.routes.specs.NowhereWorse.{NowhereWorse}
 use Rattle.routes.specs.Routes.{length_of, Within, LeastTolerance}
 use Rattle.routes.specs.declared.Found.{Found}
+use Rattle.routes.specs.declared.LeastRoute.{LeastRoute}
 use Rattle.routes.proofs.NowhereWorse.{within_too, same_length, none_too, shortest_no_longer, least_no_higher}
 use Rattle.routes.proofs.Tolerance.{exists_rises}
 use Rattle.stress.proofs.AmendmentHolds.{amendment}
 use Rattle.streets.specs.Bicycle.{bicycle}
 use Rattle.streets.specs.FormerBicycle.{former_bicycle}
 use Rattle.streets.proofs.FormerLaws.{nowhere_worse}
-use Rattle.splicereel.specs.Promises.{found, LeastRoute, told_route, told_least}
+use Rattle.splicereel.specs.Promises.{found, told_route, told_least}
 use Rattle.splicereel.specs.DemandThree.{RouteCall, LeastCall}
 use Rattle.splicereel.specs.NoteTwo.{RoutesAmended, NoteTwo}
 use Rattle.splicereel.proofs.DemandThreeHolds.{demand_three}

@@ -4,4 +4,4 @@ use Rattle.splicereel_c.proofs.judge.splicereel_judge_movement.Goals as goal
 
 pub returns : goal.returns
 returns c =
-    movement_replies c.judge_movement.ensures c.tell_level.ensures
+    movement_replies c.judge_movement.result c.judge_movement.ensures c.tell.ensures

@@ -4,4 +4,4 @@ use Rattle.splicereel_c.proofs.judge.splicereel_judge_segment.Goals as goal
 
 pub returns : goal.returns
 returns c =
-    segment_replies c.judge_segment.ensures c.tell_grade.ensures
+    segment_replies c.judge_segment.result c.judge_segment.ensures c.tell.ensures
