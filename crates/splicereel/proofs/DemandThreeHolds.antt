@@ -140,12 +140,12 @@ empty_told told c l v =
     (subst (λ (n : ℕ). told ≡ record { count = told.count; length = n; level = 1 }) l
     (subst (λ (n : ℕ). told ≡ record { count = told.count; length = told.length; level = n }) v refl))
 
-module _ {net : List ℕ} {from t : ℕ} (call : RouteCall net from from t) where
+module _ {net : List ℕ} {from to t : ℕ} (call : RouteCall net from to t) (same : from ≡ to) where
   at_home : told_route call.answer ≡ found (record { count = 0; length = 0; level = 1 })
   at_home = go (outcome call)
     where
-      stay : Within (bicycle net) t from from []
-      stay = record { route = refl; level = call.low }
+      stay : Within (bicycle net) t from to []
+      stay = record { route = same; level = call.low }
 
       go : Outcome Found (told_route call.answer) (Denied call) (Drawn call)
           → told_route call.answer ≡ found (record { count = 0; length = 0; level = 1 })
@@ -155,17 +155,14 @@ module _ {net : List ℕ} {from t : ℕ} (call : RouteCall net from from t) wher
           e ∙ rw (empty_told route (sym W.counted ∙ rw none-ridden) (sym W.measured ∙ rw none-ridden) (sym W.judged ∙ rw none-ridden))
 
 route_keeps : {net : List ℕ} {from to t : ℕ} (call : RouteCall net from to t) → OfRoute net from to t call (told_route call.answer)
-route_keeps {net} {from} {to} {t} call =
+route_keeps call =
     record {
       found_exactly = finds_exactly (denied_none call) (drawn_some call) (outcome call);
       none_exactly = none_exactly (denied_none call) (drawn_some call) (outcome call);
       stands = λ route e. written_stands (at_found (outcome call) route e);
       untouched = λ e. (at_none (outcome call) e).1;
-      same_node = λ e. home e;
+      same_node = at_home call;
     }
-  where
-    home : from ≡ to → told_route call.answer ≡ found (record { count = 0; length = 0; level = 1 })
-    home e = at_home (subst (λ (x : ℕ). RouteCall net from x t) (sym e) call)
 
 -- ---- rising tolerances
 rises : {net : List ℕ} {from to t u : ℕ} (call : RouteCall net from to t) (higher : RouteCall net from to u) → t ≤ u

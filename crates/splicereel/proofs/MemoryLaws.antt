@@ -1,20 +1,34 @@
 -- Memory that the counts choose has room: a county's for every network, a town's where the bytes are no county's.
 -- Assumes nothing.
 use mathlib.Core.Path.{◌≡◌}
-use mathlib.Core.Bool.{Bool, false}
+use mathlib.Core.Bool.{Bool, true, false}
 use mathlib.Core.List.{List}
-use Prim.Native.Nat.{ℕ}
+use native.Mathlib.Omega.{arith}
+use Prim.Native.Nat.{ℕ, ◌*◌}
 use Rattle.frames.specs.Steps.Sizes.{town_size, county_size}
-use Rattle.network.specs.Network.{nodes_of}
-use Rattle.network.specs.Steps.Corners.{NoCorners}
+use Rattle.network.specs.Network.{nodes_of, is_network}
 use Rattle.network.specs.Steps.Checks.{is_county}
-use Rattle.network.proofs.SizeLaws.{county_awaits, town_awaits, town_few, county_few}
+use Rattle.network.proofs.NetworkLaws.{passed}
+use Rattle.network.proofs.SizeLaws.{county_heads, town_heads}
 use Rattle.search_rounds.specs.Steps.Searches.{AllUnknown}
-use Rattle.splicereel.specs.Steps.Calls.{Memory}
+use Rattle.search_routes.specs.Steps.Answered.{Unmarked}
+use Rattle.splicereel.specs.Steps.Calls.{CornerRoom, NodeRoom}
 
-pub county_memory : {net index goals : List ℕ} → NoCorners county_size index → AllUnknown county_size goals → Memory net index goals
-county_memory {net} free zeros = record { corners = county_awaits free; unmarked = λ is. zeros (nodes_of net) (county_few net is) }
+pub county_corners : (net : List ℕ) → CornerRoom net (8 * county_size)
+county_corners net = record { few = county_heads net; most = omega arith }
 
-pub town_memory : {net index goals : List ℕ} {county : Bool} → county ≡ is_county net → county ≡ false → NoCorners town_size index → AllUnknown town_size goals
-    → Memory net index goals
-town_memory {net} e f free zeros = record { corners = town_awaits e f free; unmarked = λ is. zeros (nodes_of net) (town_few net e f is) }
+pub county_nodes : (net : List ℕ) → NodeRoom net county_size
+county_nodes net = record { few = county_heads net; most = omega arith }
+
+module _ {net : List ℕ} {county : Bool} (e : county ≡ is_county net) (f : county ≡ false) where
+  pub town_corners : CornerRoom net (8 * town_size)
+  town_corners = record { few = town_heads net e f; most = omega arith }
+
+  pub town_nodes : NodeRoom net town_size
+  town_nodes = record { few = town_heads net e f; most = omega arith }
+
+-- bytes of zeros are no goals
+pub unmarked : {net goals : List ℕ} {nodes : ℕ} → NodeRoom net nodes → AllUnknown nodes goals → is_network net ≡ true → Unmarked net goals
+unmarked {net} R zeros is =
+    let P = passed net is in
+    zeros (nodes_of net) (R.few.few (omega (arith, P.long)) P.head.fields)
