@@ -8,11 +8,17 @@ use native.Mathlib.Omega.{arith}
 use lib.ListN.{length, drop, length-append}
 use lib.Seq.{drop_at}
 use Rattle.text.specs.Read.{Reading, refused, kept, read_of}
+use Rattle.text.specs.Told.{told_of, refusal}
 use Rattle.cursor.specs.declared.Cursor.{Cursor}
 use Rattle.cursor.specs.Lines.{first_line, from_line, line_start, ended}
 use Rattle.cursor.specs.Cursor.{cursor_at, cursor_of}
 use Rattle.cursor.proofs.LineLaws.{first_inside}
 use Rattle.cursor.proofs.FirstFaulty.{Behind, text_stops}
+
+-- which reading was told
+pub told_refused : (reading : Reading) {number k : ℕ} → refusal number k ≡ told_of reading → reading ≡ refused number k
+told_refused (refused x l) e = cc
+told_refused (kept bytes) e = let z : ◌≡◌ {A = ℕ} 0 1 = cc in absurd (omega (arith, z))
 
 module _ (t : List ℕ) (k : ℕ) (w : Behind t (from_line k t) (k - 1)) where
   pub starts : line_start k t ≡ length (ended w.before)

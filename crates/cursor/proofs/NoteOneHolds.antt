@@ -7,7 +7,7 @@ use mathlib.Core.List.{List, [], ◌++◌}
 use native.Mathlib.Omega.{arith}
 use lib.ListN.{length, take, drop, length-take, length-drop, take-append-drop}
 use Rattle.text.specs.Read.{Reading, refused, kept, read_of}
-use Rattle.text.specs.Told.{told, told_of, refusal, written}
+use Rattle.text.specs.Told.{told, told_of, written}
 use Rattle.text.proofs.ReadTheorems.{told_kept}
 use Rattle.cursor.specs.declared.Cursor.{Cursor}
 use Rattle.cursor.specs.Lines.{first_line, from_line, NoEnd, ended, IsLine}
@@ -15,13 +15,8 @@ use Rattle.cursor.specs.Cursor.{cursor_of, cursor_at}
 use Rattle.cursor.specs.NoteOne.{LineCall, ReadCall, OfRefusal, OfAcceptance, NoteOne}
 use Rattle.cursor.proofs.LineLaws.{take_first, first_ends, first_no_end}
 use Rattle.cursor.proofs.FirstFaulty.{TextStopped, text_stops}
-use Rattle.cursor.proofs.CursorLaws.{cursor_of_lem, starts, from_start, cursor_inside}
+use Rattle.cursor.proofs.CursorLaws.{cursor_of_lem, told_refused, starts, from_start, cursor_inside}
 use Rattle.cursor.proofs.OneLine.{one_line}
-
--- ---- which reading was told
-told_refused : (reading : Reading) {number k : ℕ} → refusal number k ≡ told_of reading → reading ≡ refused number k
-told_refused (refused x l) e = cc
-told_refused (kept bytes) e = let z : ◌≡◌ {A = ℕ} 0 1 = cc in absurd (omega (arith, z))
 
 module _ {text : List ℕ} {room : ℕ} (read : ReadCall text room) where
   pub tells : told read.answer ≡ told_of (read_of text room)

@@ -1,11 +1,11 @@
 -- Document 02, note 1, whole: one statement over what the call returns, beside what Read returns for the same text and an output of the length that is
 -- told. Lines are those of specs/Lines.antt, `told` gives what Read's answer tells. Its proof is proofs/NoteOneHolds.antt.
 -- Assumes nothing.
-use Rattle.std.specs.Prelude.{ℕ, ◌+◌, ◌≤◌, ◌≡◌, List, [], ◌↔◌, length}
+use Rattle.std.specs.Prelude.{ℕ, ◌+◌, ◌≤◌, ◌≡◌, List, [], ◌↔◌, length, Result}
 use Rattle.std.specs.Borrow.{Bor}
 use Rattle.refusals.specs.declared.Refusal.TheVariants.{OutputTooShort, NoRefusedLine}
 use Rattle.refusals.specs.Numbers.{number_of}
-use Rattle.text.specs.declared.ReadAnswer.{ReadAnswer}
+use Rattle.text.specs.declared.Refused.{Refused}
 use Rattle.text.specs.Told.{told, refusal, written, ReadDid}
 use Rattle.cursor.specs.Lines.{from_line, IsLine}
 use Rattle.cursor.specs.Cursor.{Points, cursor_of}
@@ -24,7 +24,7 @@ pub record ReadCall (text : List ℕ) (room : ℕ) : Type 0 where
   pub before : List ℕ
   pub after : List ℕ
   pub of_room : length before ≡ room
-  pub answer : ReadAnswer
+  pub answer : Result ℕ Refused
   pub returned : ReadDid text before after answer
 
 -- Where the part begins in the text.

@@ -78,13 +78,10 @@ pub fn locate(text: &[u8], room: usize) -> Cursor
 pub fn refused_line<'a>(text: &'a [u8], room: usize) -> Part<'a>
     ensures { Points text.entry room result.bytes result.number }
 {
-    let Cursor {
-        number,
-        start,
-        length,
-    } = locate(text, room);
+    let cursor = locate(text, room);
+    let end = cursor.start + cursor.length;
     Part {
-        number,
-        bytes: &text[start..start + length],
+        number: cursor.number,
+        bytes: &text[cursor.start..end],
     }
 }

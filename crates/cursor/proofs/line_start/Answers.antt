@@ -36,27 +36,9 @@ module _ {t : List ℕ} {k : ℕ} (w : WholeBefore t k) (l : 2 ≤ k) {h : List 
       let rest : drop m t ≡ after_lines (k - 1) t = ap (λ (n : ℕ). drop n t) place_is ∙ sym (w.rest l) in
       record { is = omega (arith, ap length rest, length-drop m t, place_inside); inside = place_inside; rest = rest }
 
-inside : (c : goal.After-frame_bytes-size) → let a = c.args in
-    15 + (2 * c.frame_bytes-size.result + 1) * (a.line - 2) ≤ length a.text.now
-inside c =
-    place_inside c.requires (omega (arith, c.if-line-lt2.false))
-    c.decode_into.ensures.bytes c.frame_bytes-size.ensures.is c.head_of-head.ensures
-
 pub returns-then-line-lt2 : goal.returns-then-line-lt2
 returns-then-line-lt2 c =
     first_begins (omega (arith, c.if-line-lt2.true))
-
-pub decode_into-requires : goal.decode_into-requires
-decode_into-requires c =
-    (omega (arith, c.requires.long (omega (arith, c.if-line-lt2.false))), omega arith)
-
-pub overflow_mul-result-2 : goal.overflow_mul-result-2
-overflow_mul-result-2 c =
-    omega (arith, inside c)
-
-pub overflow_add-result-2 : goal.overflow_add-result-2
-overflow_add-result-2 c =
-    omega (arith, inside c)
 
 pub returns : goal.returns
 returns c =
