@@ -20,11 +20,7 @@ use Rattle.cursor.specs.Lines.{first_line, after_line, NoEnd, Ends}
 pub take_first : (u : List ℕ) → take (length (first_line u)) u ≡ first_line u
 unfolding first_line
 take_first [] = refl
-take_first (x ∷ u) = go (eqb x 10) (take_first u)
-  where
-    go : (b : Bool) → take (length (first_line u)) u ≡ first_line u → take (length (cond b [] (x ∷ first_line u))) (x ∷ u) ≡ cond b [] (x ∷ first_line u)
-    go true h = refl
-    go false h = ap (λ (v : List ℕ). x ∷ v) h
+take_first (x ∷ u) = grind (arith, take_first u)
 
 pub first_ends : (u : List ℕ) → Ends (drop (length (first_line u)) u)
 unfolding first_line
@@ -47,11 +43,7 @@ first_no_end (x ∷ u) = go (eqb x 10) refl (first_no_end u)
 pub first_inside : (u : List ℕ) → length (first_line u) ≤ length u
 unfolding first_line
 first_inside [] = omega arith
-first_inside (x ∷ u) = go (eqb x 10) (first_inside u)
-  where
-    go : (b : Bool) → length (first_line u) ≤ length u → length (cond b [] (x ∷ first_line u)) ≤ length (x ∷ u)
-    go true h = omega arith
-    go false h = omega (arith, h)
+first_inside (x ∷ u) = grind (arith, first_inside u)
 
 -- ---- a line of digits
 digits_line : (m : ℕ) (u : List ℕ) → m < length u → are_digits m u ≡ true → get_or u m 0 ≡ 10
