@@ -12,7 +12,6 @@ use lib.ListN.{length, drop, length-append, length-drop}
 use borrow.Author.Tests.{leb-true}
 use Rattle.lists.specs.Lists.{is_empty}
 use Rattle.lists.proofs.Lists.{times_suc}
-use Rattle.refusals.specs.declared.Refusal.{Refusal}
 use Rattle.refusals.specs.Numbers.{number_of}
 use Rattle.frames.specs.Edition.{frame_bytes}
 use Rattle.frames.specs.Frame.{edition, nodes, segments}
@@ -25,10 +24,11 @@ use Rattle.network.proofs.FaultLaws.{Faultless, faultless}
 use Rattle.digits.specs.Digits.{line_of, bytes_of, rest_of}
 use Rattle.digits.specs.Steps.Scan.{spelled}
 use Rattle.digits.proofs.DigitLaws.{line_after, line_spells, length_spelled}
-use Rattle.text.specs.declared.ReadAnswer.TheVariants.{Refused, Kept}
 use Rattle.text.specs.Read.{Reading, unless_fault, segment_lines, read_of, refused, kept}
 use Rattle.text.specs.Told.{told, told_of}
 use Rattle.text.specs.Steps.Spelled.{spelled_lines, spelled_text}
+use Rattle.std.specs.Prelude.{Ok, Err}
+use Rattle.text.specs.declared.Refused.{Refused}
 use Rattle.text.proofs.Spelled.{length_spelled_lines}
 
 -- ---- an acceptance passed each test
@@ -158,10 +158,10 @@ text_kept t room b f =
     }
 
 -- ---- which reading an answer told
-pub was_refused : (o : Reading) (fault : Refusal) (at : ℕ) → told (Refused fault at) ≡ told_of o → o ≡ refused (number_of fault) at
-was_refused (refused n l) fault at e = cc
-was_refused (kept b) fault at e = let z : ◌≡◌ {A = ℕ} 0 1 = cc in absurd (omega (arith, z))
+pub was_refused : (o : Reading) (why : Refused) → told (Err why) ≡ told_of o → o ≡ refused (number_of why.refusal) why.line
+was_refused (refused n l) why e = cc
+was_refused (kept b) why e = cc
 
-pub was_kept : (o : Reading) (count : ℕ) → told (Kept count) ≡ told_of o → (b : List ℕ) × (o ≡ kept b) × (count ≡ length b)
-was_kept (refused n l) count e = let z : ◌≡◌ {A = ℕ} 0 1 = cc in absurd (omega (arith, z))
+pub was_kept : (o : Reading) (count : ℕ) → told (Ok count) ≡ told_of o → (b : List ℕ) × (o ≡ kept b) × (count ≡ length b)
+was_kept (refused n l) count e = cc
 was_kept (kept b) count e = (b, refl, cc)

@@ -28,12 +28,11 @@ use Rattle.network.proofs.CornerLaws.{corners_few, index_fault_lem, claimed_inde
 use Rattle.network.proofs.FaultLaws.{Faultless, faultless}
 use Rattle.digits.specs.Digits.{line_of, bytes_of, rest_of}
 use Rattle.digits.proofs.DigitLaws.{line_after}
-use Rattle.text.specs.declared.read.LineRead.{LineRead}
-use Rattle.text.specs.declared.read.LineRead.TheVariants.{Frame, Faulty}
-use Rattle.text.specs.declared.ReadAnswer.TheVariants.{Refused, Kept}
 use Rattle.text.specs.Read.{Reading, unless_fault, segment_lines, refused, kept}
 use Rattle.text.specs.Told.{told, told_of, written}
 use Rattle.text.specs.Steps.Lines.{bytes_at, fault_after, LineJudged}
+use Rattle.std.specs.Prelude.{Result, Ok, Err}
+use Rattle.text.specs.Told.{refused_at}
 use Rattle.text.proofs.LineLaws.{tells_frame, tells_fault}
 
 -- ---- the cases of `segment_lines`
@@ -103,9 +102,9 @@ module _ {t h : List ℕ} {start : ℕ} {head : Head} {s at : ℕ} {d : List ℕ
   numbered : {x : ℕ} → fault_after head s d (bytes_at t at) ≡ x → segment_fault head.edition head.nodes (ltb s head.segments) w.taken (bytes_at t at) ≡ x
   numbered f = sym (index_fault_lem w.indexed head.edition (ltb s head.segments) (bytes_at t at)) ∙ f
 
-  pub refuses : {d' : List ℕ} {r : LineRead} {fault : Refusal} → at < length t
-      → LineJudged t at head s d d' r → r ≡ Faulty fault
-      → told (Refused fault (s + 2)) ≡ told_of (segment_lines head.edition head.nodes head.segments 2 [] h (drop start t))
+  pub refuses : {d' : List ℕ} {r : Result ℕ Refusal} {fault : Refusal} → at < length t
+      → LineJudged t at head s d d' r → r ≡ Err fault
+      → told (Err (refused_at fault (s + 2))) ≡ told_of (segment_lines head.edition head.nodes head.segments 2 [] h (drop start t))
   refuses {d'} {r} {fault} l g x =
       ap told_of (sym (go (ltb s head.segments) refl (numbered (tells_fault _ _ g.answer x))) ∙ w.whole)
     where
@@ -118,21 +117,21 @@ module _ {t h : List ℕ} {start : ℕ} {head : Head} {s at : ℕ} {d : List ℕ
           let z : head.segments - s ≡ 0 = omega (arith, ltb-false s head.segments p) in
           rw z (line_beyond head.edition head.nodes (s + 2) w.taken w.sofar (drop at t) _ (drop_some t at l) f)
 
-  pub lacks : length t ≤ at → s < head.segments → told (Refused WrongCount (s + 2)) ≡ told_of (segment_lines head.edition head.nodes head.segments 2 [] h (drop start t))
+  pub lacks : length t ≤ at → s < head.segments → told (Err (refused_at WrongCount (s + 2))) ≡ told_of (segment_lines head.edition head.nodes head.segments 2 [] h (drop start t))
   lacks l m =
       let z : head.segments - s ≡ suc (head.segments - (s + 1)) = omega arith in
       ap told_of (sym (too_few head.edition head.nodes (s + 2) w.taken w.sofar (drop at t) (head.segments - (s + 1)) (drop_none t at l)) ∙ rw z at w.whole)
 
   pub keeps : {count : ℕ} → count ≡ 7 + frame_bytes head.edition * head.segments → length t ≤ at → head.segments ≤ s
-      → told (Kept count) ≡ told_of (segment_lines head.edition head.nodes head.segments 2 [] h (drop start t))
+      → told (Ok count) ≡ told_of (segment_lines head.edition head.nodes head.segments 2 [] h (drop start t))
   keeps {count} q l m =
       let z : head.segments - s ≡ 0 = omega arith in
       let y : head.segments ≡ s = omega (arith, w.low) in
       ap written (q ∙ ap (λ (i : ℕ). 7 + frame_bytes head.edition * i) y ∙ sym w.long)
       ∙ ap told_of (sym (all_kept head.edition head.nodes (s + 2) w.taken w.sofar (drop at t) (drop_none t at l)) ∙ rw z at w.whole)
 
-  pub goes_on : {d' : List ℕ} {r : LineRead} {next : ℕ} → at < length t
-      → LineJudged t at head s d d' r → r ≡ Frame next
+  pub goes_on : {d' : List ℕ} {r : Result ℕ Refusal} {next : ℕ} → at < length t
+      → LineJudged t at head s d d' r → r ≡ Ok next
       → Going t h start head (s + 1) next d'
   goes_on {d'} {r} {next} l g x =
       let f : List ℕ = bytes_at t at in

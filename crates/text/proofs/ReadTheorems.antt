@@ -25,8 +25,6 @@ use Rattle.network.specs.Network.{kept_bytes, head_of, edition_of, nodes_of, seg
 use Rattle.network.proofs.FaultLaws.{segment_no_fault}
 use Rattle.network.proofs.NetworkLaws.{passed, frames_passed}
 use Rattle.digits.specs.Digits.{line, line_of, bytes_of, rest_of}
-use Rattle.text.specs.declared.ReadAnswer.{ReadAnswer}
-use Rattle.text.specs.declared.ReadAnswer.TheVariants.{Kept}
 use Rattle.text.specs.Text.{line_text, frames_text, text_of, Bytes}
 use Rattle.text.specs.Accepted.{count, joined, Each, lines_text, Accepted}
 use Rattle.text.specs.Read.{kept, segment_lines, read_of, Reading, refused}
@@ -34,6 +32,8 @@ use Rattle.text.specs.Told.{told, output_of, ReadDid, written, told_of}
 use Rattle.text.proofs.Distinct.{Fresh, fresh_is_distinct, distinct_is_fresh}
 use Rattle.text.proofs.KeptText.{line_kept, none_left, head_kept}
 use Rattle.text.proofs.LinesRead.{all_kept, good_line}
+use Rattle.text.specs.declared.Refused.{Refused}
+use Rattle.std.specs.Prelude.{Result, Ok}
 use Rattle.text.proofs.TextLaws.{bytes_append, bytes_parts, spelled_bytes, line_back, line_some, line_text_lem}
 
 -- frames that Read finds no fault with, one after the other
@@ -253,7 +253,7 @@ told_kept (refused number at) count e =
 told_kept (kept bytes) count e = (bytes, refl, cc)
 
 -- an acceptance has a network at the front of the output
-pub kept_front : {text net₀ net : List ℕ} {count : ℕ} {answer : ReadAnswer} → answer ≡ Kept count → ReadDid text net₀ net answer
+pub kept_front : {text net₀ net : List ℕ} {count : ℕ} {answer : Result ℕ Refused} → answer ≡ Ok count → ReadDid text net₀ net answer
     → (is_network (take count net) ≡ true) × (count ≤ length net) × (read_of text (length net₀) ≡ kept (take count net))
 kept_front {text} {net₀} {net} {count} {answer} e D =
     let k = told_kept (read_of text (length net₀)) count (sym (ap told e) ∙ D.answer) in

@@ -1,9 +1,14 @@
 -- What Read's answer tells: the paper's number and values for every case of it.
 -- Assumes nothing.
 use Rattle.std.specs.Prelude.{ℕ, ◌≡◌, List, ◌++◌, length, drop, Result, Ok, Err}
+use Rattle.refusals.specs.declared.Refusal.{Refusal}
 use Rattle.refusals.specs.Numbers.{number_of}
 use Rattle.text.specs.declared.Refused.{Refused}
 use Rattle.text.specs.Read.{Reading, read_of, refused, kept}
+
+-- A refusal of this line.
+abbrev pub refused_at : Refusal → ℕ → Refused
+refused_at why at = record { refusal = why; line = at }
 
 -- A refusal tells number and line; an acceptance tells the bytes written.
 pub data ReadTold : Type 0 where

@@ -1,14 +1,14 @@
 // Read: a first pass over the text finds the first fault and writes nothing; a second pass writes the bytes.
 ghost use Rattle.std.specs.Prelude.{◌+◌, ◌*◌, ◌/◌, ◌≤◌, ◌<◌, ◌≡◌, true, [], ◌++◌, length, drop};
 ghost use Rattle.frames.specs.Edition.{frame_bytes};
-ghost use Rattle.frames.specs.Steps.Sizes.{most_bytes};
+ghost use Rattle.frames.specs.Steps.Sizes.{county_size, most_bytes};
 ghost use Rattle.frames.specs.Frame.{head_bytes, nodes};
 ghost use Rattle.frames.specs.Ranges.{head_ok};
 ghost use Rattle.frames.specs.Faults.{framed};
 ghost use Rattle.network.specs.Steps.Corners.{Indexed};
 ghost use Rattle.network.specs.Steps.Checks.{HeadFits};
 ghost use Rattle.text.specs.Read.{read_of};
-ghost use Rattle.text.specs.Told.{told, told_of, ReadDid};
+ghost use Rattle.text.specs.Told.{refused_at, told, told_of, ReadDid};
 ghost use Rattle.text.specs.Steps.Spelled.{spelled_text};
 ghost use Rattle.text.specs.Steps.Lines.{LineDecoded, LineFault, FrameRead, SegmentJudged, LineJudged, HeadJudged, lines_after};
 
@@ -45,11 +45,16 @@ fn fault_of(text: &[u8], at: usize) -> Refusal
     requires { at ≤ length text.now }
     ensures { LineFault text.now at result }
 {
-    match scan_line(text, at) {
-        None | Some(Scanned { count: 0, .. }) => Refusal::NotDigits,
-        Some(Scanned { sum: 0, .. }) => Refusal::WrongFrame,
-        Some(_) => Refusal::WrongCheck,
+    let Some(Scanned { count, sum }) = scan_line(text, at) else {
+        return Refusal::NotDigits;
+    };
+    if count == 0 {
+        return Refusal::NotDigits;
     }
+    if sum != 0 {
+        return Refusal::WrongCheck;
+    }
+    Refusal::WrongFrame
 }
 
 // Reads the line at a place as a frame of this kind and of the buffer's length.
@@ -128,8 +133,8 @@ fn segment_line(
 }
 
 // A refusal of the line with this number.
-fn refused_at(line: usize, refusal: Refusal) -> Refused
-    ensures { (result.refusal ≡ refusal) × (result.line ≡ line) }
+fn refused_at(refusal: Refusal, line: usize) -> Refused
+    ensures { result ≡ refused_at refusal line }
 {
     Refused { refusal, line }
 }
@@ -148,11 +153,11 @@ fn judge_lines(
     let mut s: usize = 0;
     let mut at = start;
     while at < text.len() {
-        at = segment_line(text, at, head, s, index).map_err(|refusal| refused_at(s + 2, refusal))?;
+        at = segment_line(text, at, head, s, index).map_err(|refusal| refused_at(refusal, s + 2))?;
         s += 1;
     }
     if s < head.segments {
-        return Err(refused_at(s + 2, Refusal::WrongCount));
+        return Err(refused_at(Refusal::WrongCount, s + 2));
     }
     Ok(kept_bytes(head))
 }
@@ -164,7 +169,7 @@ fn judge_in<const CORNERS: usize>(
     start: usize,
     first: &[u8; fields::HEAD_BYTES],
 ) -> Result<usize, Refused>
-    requires { (start ≤ length text.now) × (head_ok first.now ≡ true) × (nodes first.now ≤ CORNERS / 8) }
+    requires { (start ≤ length text.now) × (head_ok first.now ≡ true) × (nodes first.now ≤ CORNERS / 8) × (CORNERS ≤ 8 * county_size) }
     ensures { told result ≡ told_of (lines_after first.now (drop start text.now)) }
 {
     let mut index = free_corners::<CORNERS>();
@@ -226,7 +231,7 @@ pub fn judge_text(text: &[u8], room: usize) -> Result<usize, Refused>
     ensures { told result ≡ told_of (read_of text.now room) }
 {
     let mut first = [0; fields::HEAD_BYTES];
-    let next = judge_head(text, room, &mut first).map_err(|refusal| refused_at(1, refusal))?;
+    let next = judge_head(text, room, &mut first).map_err(|refusal| refused_at(refusal, 1))?;
     judge_segments(text, next, &first)
 }
 

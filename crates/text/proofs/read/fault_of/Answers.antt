@@ -5,20 +5,21 @@ use mathlib.Core.Path.{◌≡◌, sym, ap, ◌∙◌}
 use lib.ListN.{length, drop}
 use Rattle.refusals.specs.declared.Refusal.TheVariants.{NotDigits, WrongCheck, WrongFrame}
 use Rattle.frames.proofs.FrameLaws.{empty_fault, check_fault, size_fault}
+use Rattle.digits.specs.declared.Scanned.{Scanned}
 use Rattle.digits.specs.Digits.{line_of}
-use Rattle.digits.proofs.DigitLaws.{Scanned, scan_tells, scan_breaks}
+use Rattle.digits.proofs.DigitLaws.{LineScanned, scan_tells, scan_breaks}
 use Rattle.text.specs.Steps.Lines.{bytes_at, LineFault}
 use Rattle.text.proofs.read.fault_of.Goals as goal
 
 no_bytes : {t : List ℕ} {at : ℕ} → length (bytes_at t at) ≡ 0 → LineFault t at NotDigits
 no_bytes z = record { answer = λ kind size h. empty_fault kind size 0 _ z }
 
-module _ {t : List ℕ} {at count sum : ℕ} (s : Scanned count sum (line_of (drop at t))) (z : count ≡ 0 → ⊥) where
-  wrong_check : (sum ≡ 0 → ⊥) → LineFault t at WrongCheck
+module _ {t : List ℕ} {at : ℕ} {scan : Scanned} (s : LineScanned scan (line_of (drop at t))) (z : scan.count ≡ 0 → ⊥) where
+  wrong_check : (scan.sum ≡ 0 → ⊥) → LineFault t at WrongCheck
   wrong_check y =
       record { answer = λ kind size h. check_fault kind size 0 _ (λ q. z (sym s.count_is ∙ q)) (λ q. y (sym s.sum_is ∙ q)) }
 
-  wrong_length : sum ≡ 0 → LineFault t at WrongFrame
+  wrong_length : scan.sum ≡ 0 → LineFault t at WrongFrame
   wrong_length y = record { answer = λ kind size h. size_fault kind size 0 _ (λ q. z (sym s.count_is ∙ q)) (s.sum_is ∙ y) h }
 
 pub returns-in_default : goal.returns-in_default
@@ -27,12 +28,12 @@ returns-in_default c =
 
 pub returns-then-count-eq0 : goal.returns-then-count-eq0
 returns-then-count-eq0 c =
-    no_bytes ((scan_tells _ (sym c.in-Whole.is ∙ c.scan_line.ensures)).count_is ∙ c.if-count-eq0.true)
+    no_bytes ((scan_tells _ (sym c.in-Some.is ∙ c.scan_line.ensures)).count_is ∙ c.if-count-eq0.true)
 
 pub returns-then-sum-ne0 : goal.returns-then-sum-ne0
 returns-then-sum-ne0 c =
-    wrong_check (scan_tells _ (sym c.in-Whole.is ∙ c.scan_line.ensures)) c.if-count-eq0.false c.if-sum-ne0.true
+    wrong_check (scan_tells _ (sym c.in-Some.is ∙ c.scan_line.ensures)) c.if-count-eq0.false c.if-sum-ne0.true
 
 pub returns : goal.returns
 returns c =
-    wrong_length (scan_tells _ (sym c.in-Whole.is ∙ c.scan_line.ensures)) c.if-count-eq0.false c.if-sum-ne0.false
+    wrong_length (scan_tells _ (sym c.in-Some.is ∙ c.scan_line.ensures)) c.if-count-eq0.false c.if-sum-ne0.false

@@ -13,16 +13,16 @@ use Rattle.refusals.proofs.Positive.{positive}
 use Rattle.frames.specs.Frame.{total}
 use Rattle.frames.specs.Faults.{framed}
 use Rattle.frames.proofs.FrameLaws.{check_fault, kind_fault, no_fault}
-use Rattle.text.specs.declared.read.LineRead.TheVariants.{Frame, Faulty}
 use Rattle.text.specs.Steps.Lines.{bytes_at, LineDecoded, LineFault, FrameRead}
+use Rattle.std.specs.Prelude.{Ok, Err}
 use Rattle.text.proofs.read.frame_line.Goals as goal
 
 fails : {t : List ℕ} {at kind : ℕ} {d e : List ℕ} (fault : Refusal) → framed kind (length d) (bytes_at t at) 0 ≡ number_of fault
-    → FrameRead t at kind d e (Faulty fault)
+    → FrameRead t at kind d e (Err fault)
 fails fault h = record { answer = h; frame = λ z. absurd (positive fault (sym h ∙ z)) }
 
 other_line : {t : List ℕ} {at kind : ℕ} {d e : List ℕ} {r : Bool} {fault : Refusal} → LineDecoded t at d e r → r ≡ false → LineFault t at fault
-    → FrameRead t at kind d e (Faulty fault)
+    → FrameRead t at kind d e (Err fault)
 other_line {kind = kind} {fault = fault} w g f = fails fault (f.answer kind _ (eqb-false _ _ (sym w.answer ∙ g)))
 
 -- the buffer holds the line
@@ -36,13 +36,13 @@ module _ {t : List ℕ} {at : ℕ} {d e : List ℕ} {r : Bool} (w : LineDecoded 
   by_bytes : (kind x : ℕ) → framed kind (length d) e 0 ≡ x → framed kind (length d) (bytes_at t at) 0 ≡ x
   by_bytes kind x h = ap (λ (f : List ℕ). framed kind (length d) f 0) (sym (w.frame g)) ∙ h
 
-  wrong_check : {kind : ℕ} → (total e % 256 ≡ 0 → ⊥) → FrameRead t at kind d e (Faulty WrongCheck)
+  wrong_check : {kind : ℕ} → (total e % 256 ≡ 0 → ⊥) → FrameRead t at kind d e (Err WrongCheck)
   wrong_check {kind} y = fails WrongCheck (by_bytes kind 2 (check_fault kind (length d) 0 e some y))
 
-  wrong_kind : {kind : ℕ} → total e % 256 ≡ 0 → (get_or e 0 0 ≡ kind → ⊥) → FrameRead t at kind d e (Faulty WrongFrame)
+  wrong_kind : {kind : ℕ} → total e % 256 ≡ 0 → (get_or e 0 0 ≡ kind → ⊥) → FrameRead t at kind d e (Err WrongFrame)
   wrong_kind {kind} y k = fails WrongFrame (by_bytes kind 3 (kind_fault kind (length d) 0 e some y k))
 
-  right_kind : {kind : ℕ} → total e % 256 ≡ 0 → get_or e 0 0 ≡ kind → FrameRead t at kind d e (Frame (at + 2 * length e + 1))
+  right_kind : {kind : ℕ} → total e % 256 ≡ 0 → get_or e 0 0 ≡ kind → FrameRead t at kind d e (Ok (at + 2 * length e + 1))
   right_kind {kind} y k =
       record {
         answer = (by_bytes kind 0 (no_fault kind (length d) 0 e some y long k), ap (λ (n : ℕ). at + 2 * n + 1) long);

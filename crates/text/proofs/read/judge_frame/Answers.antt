@@ -19,9 +19,9 @@ use Rattle.frames.proofs.FrameLaws.{framed_has}
 use Rattle.network.specs.Steps.Checks.{free_in, Claimed}
 use Rattle.network.proofs.CornerLaws.{corners_few}
 use Rattle.network.proofs.FaultLaws.{beyond_fault, field_fault, leg_fault, no_fault}
-use Rattle.text.specs.declared.read.LineRead.TheVariants.{Frame, Faulty}
 use Rattle.text.specs.Steps.Lines.{fault_after, SegmentJudged}
 use Rattle.text.proofs.LineLaws.{judged_faulty}
+use Rattle.std.specs.Prelude.{Ok, Err}
 use Rattle.text.proofs.read.judge_frame.Goals as goal
 
 -- a framed segment has its edition's length
@@ -29,21 +29,21 @@ long : (e : ℕ) (f : List ℕ) → framed 2 (frame_bytes e) f 0 ≡ 0 → lengt
 long e f w = (framed_has 2 (frame_bytes e) f 0 w).long
 
 module _ {f : List ℕ} {next : ℕ} {head : Head} {s : ℕ} {d : List ℕ} (w : framed 2 (frame_bytes head.edition) f 0 ≡ 0) where
-  beyond : ltb s head.segments ≡ false → SegmentJudged f next head s d d (Faulty WrongCount)
+  beyond : ltb s head.segments ≡ false → SegmentJudged f next head s d d (Err WrongCount)
   beyond m = judged_faulty WrongCount (rw m (beyond_fault head.edition head.nodes f w (free_in d f)))
 
   wrong_field : ltb s head.segments ≡ true → (ends_ok head.nodes f && street_ok head.edition f) ≡ false
-      → SegmentJudged f next head s d d (Faulty WrongField)
+      → SegmentJudged f next head s d d (Err WrongField)
   wrong_field m o = judged_faulty WrongField (rw m (field_fault head.edition head.nodes f w (free_in d f) o))
 
   module _ (m : ltb s head.segments ≡ true) (o : (ends_ok head.nodes f && street_ok head.edition f) ≡ true) where
-    leg_taken : {d' : List ℕ} → Claimed f s d d' false → SegmentJudged f next head s d d' (Faulty LegTaken)
+    leg_taken : {d' : List ℕ} → Claimed f s d d' false → SegmentJudged f next head s d d' (Err LegTaken)
     leg_taken {d'} h =
         let g : d' ≡ d = h.index ∙ rw (sym h.answer) in
-        subst (λ (x : List ℕ). SegmentJudged f next head s d x (Faulty LegTaken)) (sym g)
+        subst (λ (x : List ℕ). SegmentJudged f next head s d x (Err LegTaken)) (sym g)
         (judged_faulty LegTaken (rw (m, sym h.answer) (leg_fault head.edition head.nodes f w o)))
 
-    faultless : {d' : List ℕ} → Claimed f s d d' true → SegmentJudged f next head s d d' (Frame next)
+    faultless : {d' : List ℕ} → Claimed f s d d' true → SegmentJudged f next head s d d' (Ok next)
     faultless h =
         let z : fault_after head s d f ≡ 0 = rw (m, sym h.answer) (no_fault head.edition head.nodes f w o) in
         record { answer = (z, refl); index = h.index ∙ rw (z, sym h.answer) }

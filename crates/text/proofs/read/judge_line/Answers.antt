@@ -8,18 +8,18 @@ use Rattle.refusals.specs.declared.Refusal.{Refusal}
 use Rattle.frames.specs.declared.Head.{Head}
 use Rattle.frames.specs.Edition.{frame_bytes}
 use Rattle.frames.proofs.EditionLaws.{frame_least, frame_most}
-use Rattle.text.specs.declared.read.LineRead.{LineRead}
-use Rattle.text.specs.declared.read.LineRead.TheVariants.{Faulty}
 use Rattle.text.specs.Steps.Lines.{FrameRead, SegmentJudged, LineJudged}
 use Rattle.text.proofs.LineLaws.{Framing, framing, faulting, judged_faulty}
+use Rattle.std.specs.Prelude.{Result, Err}
+use Rattle.std.proofs.lemmas.Result.{err_from_is_err_and}
 use Rattle.text.proofs.read.judge_line.Goals as goal
 
 module _ {t : List ℕ} {at : ℕ} {head : Head} {s : ℕ} {d : List ℕ} where
-  bad_line : {z f : List ℕ} {r : LineRead} {fault : Refusal} → length z ≡ frame_bytes head.edition → FrameRead t at 2 z f r → r ≡ Faulty fault
-      → LineJudged t at head s d d (Faulty fault)
+  bad_line : {z f : List ℕ} {r : Result ℕ Refusal} {fault : Refusal} → length z ≡ frame_bytes head.edition → FrameRead t at 2 z f r → r ≡ Err fault
+      → LineJudged t at head s d d (Err fault)
   bad_line {fault = fault} l h g = judged_faulty fault (faulting l h g _)
 
-  by_frame : {f d' : List ℕ} {next : ℕ} {r : LineRead} → Framing 2 (frame_bytes head.edition) t at f next → SegmentJudged f next head s d d' r
+  by_frame : {f d' : List ℕ} {next : ℕ} {r : Result ℕ Refusal} → Framing 2 (frame_bytes head.edition) t at f next → SegmentJudged f next head s d d' r
       → LineJudged t at head s d d' r
   by_frame {d' = d'} {r = r} w h =
       subst₂ (λ (x : List ℕ) (i : ℕ). SegmentJudged x i head s d d' r) w.bytes w.next_is h
@@ -29,11 +29,11 @@ frame_line-requires c =
     let e = c.args.head.edition in
     let l = c.requires.2 in (omega arith, omega (arith, frame_least e, l), omega (arith, frame_most e, l))
 
-pub returns-in-Faulty : goal.returns-in-Faulty
-returns-in-Faulty c =
-    bad_line c.requires.2
-    c.frame_line.ensures c.in-Faulty.is
+pub returns-in_err-next : goal.returns-in_err-next
+returns-in_err-next c =
+    let p = err_from_is_err_and c.from_residual.result c.from_residual.ensures.1 in
+    rw (p.1, p.2) (bad_line c.requires.2 c.frame_line.ensures c.in_err-next.was)
 
-pub returns-in-Frame : goal.returns-in-Frame
-returns-in-Frame c =
-    by_frame (framing c.requires.2 c.frame_line.ensures c.in-Frame.is) c.judge_frame.ensures
+pub returns : goal.returns
+returns c =
+    by_frame (framing c.requires.2 c.frame_line.ensures c.in_ok-next.was) c.judge_frame.ensures

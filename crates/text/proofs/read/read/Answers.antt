@@ -5,22 +5,23 @@ use mathlib.Core.List.{List, ◌++◌}
 use mathlib.Core.Path.{◌≡◌, refl, sym, ap, ◌∙◌, subst₂}
 use native.Mathlib.Omega.{arith}
 use lib.ListN.{length, drop}
-use Rattle.refusals.specs.declared.Refusal.{Refusal}
+use Rattle.text.specs.declared.Refused.{Refused}
 use Rattle.frames.specs.declared.Head.{Head}
 use Rattle.frames.specs.Edition.{frame_bytes}
 use Rattle.frames.specs.Frame.{edition, segments}
 use Rattle.frames.specs.Decoded.{head_fields}
 use Rattle.digits.specs.Steps.Scan.{spelled}
-use Rattle.text.specs.declared.ReadAnswer.TheVariants.{Refused, Kept}
 use Rattle.text.specs.Read.{Reading, read_of, kept}
 use Rattle.text.specs.Told.{told, told_of, written, output_of, ReadDid}
 use Rattle.text.specs.Steps.Spelled.{spelled_text}
 use Rattle.text.proofs.KeptText.{TextKept, text_kept, was_refused, was_kept}
+use Rattle.std.specs.Prelude.{Ok, Err}
+use Rattle.std.proofs.lemmas.Result.{err_from_is_err_and}
 use Rattle.text.proofs.read.read.Goals as goal
 
-refuses : {t o : List ℕ} {fault : Refusal} {at : ℕ} → told (Refused fault at) ≡ told_of (read_of t (length o)) → ReadDid t o o (Refused fault at)
-refuses {t} {o} {fault} {at} e =
-    record { answer = e; output = ap (λ (x : Reading). output_of x o) (sym (was_refused (read_of t (length o)) fault at e)) }
+refuses : {t o : List ℕ} {why : Refused} → told (Err why) ≡ told_of (read_of t (length o)) → ReadDid t o o (Err why)
+refuses {t} {o} {why} e =
+    record { answer = e; output = ap (λ (x : Reading). output_of x o) (sym (was_refused (read_of t (length o)) why e)) }
 
 record Keeps (t : List ℕ) (room count : ℕ) : Type 0 where
   b : List ℕ
@@ -28,7 +29,7 @@ record Keeps (t : List ℕ) (room count : ℕ) : Type 0 where
   long : count ≡ length b
   text : TextKept t room b
 
-keeps : {t : List ℕ} {room count : ℕ} → told (Kept count) ≡ told_of (read_of t room) → Keeps t room count
+keeps : {t : List ℕ} {room count : ℕ} → told (Ok count) ≡ told_of (read_of t room) → Keeps t room count
 keeps {t} {room} {count} e =
     let q = was_kept (read_of t room) count e in
     record { b = q.0; is = q.1; long = q.2; text = text_kept t room q.0 q.1 }
@@ -45,7 +46,7 @@ module _ {t : List ℕ} {room count : ℕ} (k : Keeps t room count) {h : List �
   rooms =
       subst₂ (λ (i j : ℕ). (15 + (2 * i + 1) * j ≤ length t) × (7 + i * j ≤ room)) (sym size_is) (sym count_is) (k.text.long, k.text.fits)
 
-  writes : {o o' : List ℕ} → length o ≡ room → o' ≡ spelled_text size head.segments t ++ drop (7 + size * head.segments) o → ReadDid t o o' (Kept count)
+  writes : {o o' : List ℕ} → length o ≡ room → o' ≡ spelled_text size head.segments t ++ drop (7 + size * head.segments) o → ReadDid t o o' (Ok count)
   writes {o} {o'} l e =
       let g : spelled_text size head.segments t ++ drop (7 + size * head.segments) o ≡ k.b ++ drop (length k.b) o =
       subst₂ (λ (i j : ℕ). spelled_text i j t ++ drop (7 + i * j) o ≡ k.b ++ drop (length k.b) o) (sym size_is) (sym count_is)
@@ -58,20 +59,21 @@ module _ {t : List ℕ} {room count : ℕ} (k : Keeps t room count) {h : List �
 
 pub decode_into-requires : goal.decode_into-requires
 decode_into-requires c =
-    omega (arith, (keeps (ap told (sym c.in-Kept.is) ∙ c.judge_text.ensures)).text.long)
+    omega (arith, (keeps (ap told (sym c.in_ok-count.was) ∙ c.judge_text.ensures)).text.long)
 
 pub write_frames-requires : goal.write_frames-requires
 write_frames-requires c =
-    let kept-here = keeps (ap told (sym c.in-Kept.is) ∙ c.judge_text.ensures) in
+    let kept-here = keeps (ap told (sym c.in_ok-count.was) ∙ c.judge_text.ensures) in
     let r = rooms kept-here c.decode_into.ensures.bytes c.frame_bytes.ensures.is c.head_of-head.ensures in
     (r.0, r.1, c.frame_bytes.ensures.most)
 
-pub returns-in-Refused : goal.returns-in-Refused
-returns-in-Refused c =
-    refuses (ap told (sym c.in-Refused.is) ∙ c.judge_text.ensures)
+pub returns-in_err-count : goal.returns-in_err-count
+returns-in_err-count c =
+    let p = err_from_is_err_and c.from_residual.result c.from_residual.ensures.1 in
+    rw (p.1, p.2) (refuses (ap told (sym c.in_err-count.was) ∙ c.judge_text.ensures))
 
-pub returns-in-Kept : goal.returns-in-Kept
-returns-in-Kept c =
-    let kept-here = keeps (ap told (sym c.in-Kept.is) ∙ c.judge_text.ensures) in
+pub returns : goal.returns
+returns c =
+    let kept-here = keeps (ap told (sym c.in_ok-count.was) ∙ c.judge_text.ensures) in
     writes kept-here c.decode_into.ensures.bytes c.frame_bytes.ensures.is c.head_of-head.ensures refl
     c.write_frames.ensures

@@ -1,7 +1,7 @@
 -- The loop's invariant: the frames written so far, and what the lines left spell, are the whole; from `out` on the output is as it was.
 use Prim.Native.Nat.{ℕ, suc, ◌+◌, ◌*◌, ◌-◌, ◌≤◌, ◌<◌}
 use mathlib.Core.List.{List, ◌++◌, append_assoc, append-nil}
-use mathlib.Core.Path.{◌≡◌, refl, sym, ap, ◌∙◌}
+use mathlib.Core.Path.{◌≡◌, refl, sym, ap, ◌∙◌, subst₂}
 use native.Mathlib.Nat.{sub-zero, mul-zero, mul-le-mul_left}
 use native.Mathlib.Omega.{arith}
 use lib.ListN.{length, drop, take, length-append, length-take, length-drop, take-append-drop}
@@ -81,23 +81,28 @@ module _ {t : List ℕ} {b m : ℕ} {o₀ o : List ℕ} {s at out : ℕ} (w : Wr
       sym (append-nil (take out o)) ∙ rw (z, spelled_lines) at w.whole in
       sym (take-append-drop out o) ∙ rw (q, v)
 
+from_front : {t : List ℕ} {b m : ℕ} {o : List ℕ} → Writing t b m o o 0 15 7 → Writing t b m o o 0 (15 + (2 * b + 1) * 0) (7 + b * 0)
+from_front {b = b} w = rw (mul-zero (2 * b + 1), mul-zero b) w
+
+next_frame : {t : List ℕ} {b m : ℕ} {o₀ o : List ℕ} (s : ℕ)
+    → Writing t b m o₀ o (s + 1) (15 + (2 * b + 1) * s + (2 * b + 1)) (7 + b * s + b) → Writing t b m o₀ o (s + 1) (15 + (2 * b + 1) * (s + 1)) (7 + b * (s + 1))
+next_frame {t} {b} {m} {o₀} {o} s w =
+    subst₂ (λ (i j : ℕ). Writing t b m o₀ o (s + 1) i j) (omega (arith, times_next (2 * b + 1) s)) (omega (arith, times_next b s)) w
+
 -- the head that was decoded has its length, in an output with room for it
 head_long : (t e : List ℕ) {ys : List ℕ} → 7 ≤ length e → ys ≡ spelled (length (take 7 e)) t → length ys ≡ 7
 head_long t e r h = ap length h ∙ length_spelled _ t ∙ length-take 7 e ∙ omega arith
 
 pub loop-s-init : goal.loop-s-init
 loop-s-init c =
-    starts c.args.output.now c.decode_into.new.bytes
-    c.requires.1 c.requires.0
-    c.decode_into.ensures.bytes
+    from_front (starts c.args.output.now c.decode_into.new.bytes c.requires.1 c.requires.0 c.decode_into.ensures.bytes)
 
 pub loop-s-preserved : goal.loop-s-preserved
 loop-s-preserved c =
-    let out = c.loop-s.out in
-    goes_on c.loop-s.invariant
-    (out + c.args.size - out)
-    c.decode_into-in-loop-s.new.bytes c.loop-s-test.true (omega arith)
-    c.decode_into-in-loop-s.ensures.bytes
+    let out = 7 + c.args.size * c.loop-s.s in
+    next_frame c.loop-s.s
+    (goes_on c.loop-s.invariant (out + c.args.size - out) c.decode_into-in-loop-s.new.bytes c.loop-s-test.true (omega arith)
+    c.decode_into-in-loop-s.ensures.bytes)
 
 pub returns : goal.returns
 returns c =

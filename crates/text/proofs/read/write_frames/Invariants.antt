@@ -18,8 +18,4 @@ pub record Writing (t : List ℕ) (b m : ℕ) (o₀ o : List ℕ) (s at out : �
 
 abbrev pub invariant-loop-s : goal.invariant-loop-s
 invariant-loop-s l =
-    Writing l.text l.size l.segments l.initial.output l.output l.s l.at l.out
-
-abbrev pub decreases-loop-s : goal.decreases-loop-s
-decreases-loop-s l =
-    l.segments - l.s
+    Writing l.text l.size l.segments l.initial.output l.output l.s (15 + (2 * l.size + 1) * l.s) (7 + l.size * l.s)

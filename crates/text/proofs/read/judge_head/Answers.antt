@@ -1,11 +1,12 @@
--- Each return is one test of `read_of`, in its order: an empty text, the head line's own faults, its fields, the room, and then the lines after it.
+-- Each return is one test of `read_of`, in its order: an empty text, the head line's own faults, its fields, the room, and then the lines after it are left.
 use Prim.Native.Nat.{ℕ, ◌+◌, ◌*◌, ◌≤◌, ◌<◌}
-use mathlib.Core.Bool.{true, false}
-use mathlib.Core.List.{List, []}
-use mathlib.Core.Path.{◌≡◌, refl, sym, ap, ◌∙◌, subst}
+use mathlib.Core.Bool.{Bool, true, false}
+use mathlib.Core.List.{List}
+use mathlib.Core.Path.{◌≡◌, sym, ap, ◌∙◌, subst}
 use native.Mathlib.Omega.{arith}
+use lib.Dec.{eqb}
 use lib.ListN.{length, drop}
-use borrow.Author.Tests.{le-leb, lt-leb}
+use borrow.Author.Tests.{eqb-true, eqb-false, le-leb, lt-leb}
 use Rattle.lists.proofs.Lists.{length_of_none, length_of_some}
 use Rattle.refusals.specs.declared.Refusal.{Refusal}
 use Rattle.refusals.specs.declared.Refusal.TheVariants.{WrongFrame, WrongField, OutputTooShort}
@@ -13,7 +14,6 @@ use Rattle.refusals.specs.Numbers.{number_of}
 use Rattle.refusals.proofs.Positive.{positive}
 use Rattle.frames.specs.declared.Head.{Head}
 use Rattle.frames.specs.Edition.{frame_bytes}
-use Rattle.frames.specs.Frame.{edition, nodes, segments}
 use Rattle.frames.specs.Ranges.{head_ok}
 use Rattle.frames.specs.Decoded.{head_fields}
 use Rattle.frames.specs.Faults.{head_fault}
@@ -21,23 +21,21 @@ use Rattle.frames.proofs.FrameLaws.{framed_good, framed_has, limited}
 use Rattle.network.specs.Network.{kept_bytes}
 use Rattle.digits.specs.Digits.{line_of, bytes_of, rest_of}
 use Rattle.digits.proofs.DigitLaws.{line_after}
-use Rattle.text.specs.declared.read.LineRead.{LineRead}
-use Rattle.text.specs.declared.read.LineRead.TheVariants.{Faulty}
-use Rattle.text.specs.declared.ReadAnswer.TheVariants.{Refused}
-use Rattle.text.specs.Read.{segment_lines, after_head, read_of}
-use Rattle.text.specs.Told.{ReadTold, told_of, told}
-use Rattle.text.specs.Steps.Lines.{FrameRead}
+use Rattle.text.specs.Read.{refused, after_head, read_of}
+use Rattle.text.specs.Steps.Lines.{FrameRead, lines_after}
 use Rattle.text.proofs.LineLaws.{Framing, framing, faulting}
 use Rattle.text.proofs.LinesRead.{fault_decides}
-use Rattle.text.proofs.read.judge_text.Goals as goal
+use Rattle.std.specs.Prelude.{Result, Err}
+use Rattle.std.proofs.lemmas.Result.{err_from_is_err_and}
+use Rattle.text.proofs.read.judge_head.Goals as goal
 
 module _ (t : List ℕ) (room : ℕ) where
-  empty : length t ≡ 0 → told (Refused WrongFrame 1) ≡ told_of (read_of t room)
+  empty : length t ≡ 0 → read_of t room ≡ refused (number_of WrongFrame) 1
   unfolding read_of
   empty e = rw (length_of_none t e)
 
   module _ (some : length t ≡ 0 → ⊥) where
-    stops : (fault : Refusal) → head_fault (bytes_of (line_of t)) ≡ number_of fault → told (Refused fault 1) ≡ told_of (read_of t room)
+    stops : (fault : Refusal) → head_fault (bytes_of (line_of t)) ≡ number_of fault → read_of t room ≡ refused (number_of fault) 1
     unfolding read_of
     stops fault e =
         rw (
@@ -47,13 +45,13 @@ module _ (t : List ℕ) (room : ℕ) where
               (positive fault),
         )
 
-    bad_line : {z f : List ℕ} {r : LineRead} {fault : Refusal} → length z ≡ 7 → FrameRead t 0 1 z f r → r ≡ Faulty fault
-        → told (Refused fault 1) ≡ told_of (read_of t room)
+    bad_line : {z f : List ℕ} {r : Result ℕ Refusal} {fault : Refusal} → length z ≡ 7 → FrameRead t 0 1 z f r → r ≡ Err fault
+        → read_of t room ≡ refused (number_of fault) 1
     unfolding head_fault
     bad_line {fault = fault} l h e = stops fault (faulting l h e _)
 
     module _ {f : List ℕ} {next : ℕ} (w : Framing 1 7 t 0 f next) where
-      wrong_head : head_ok f ≡ false → told (Refused WrongField 1) ≡ told_of (read_of t room)
+      wrong_head : head_ok f ≡ false → read_of t room ≡ refused (number_of WrongField) 1
       unfolding head_fault
       wrong_head o = stops WrongField (subst (λ (g : List ℕ). head_fault g ≡ 4) w.bytes (framed_good 1 7 _ f w.good ∙ rw o))
 
@@ -72,24 +70,32 @@ module _ (t : List ℕ) (room : ℕ) where
             (omega (arith, q.0, e), q.1 ∙ ap (λ (i : ℕ). drop i t) e)
 
         module _ {count : ℕ} (q : count ≡ kept_bytes f) where
-          no_room : room < count → told (Refused OutputTooShort 1) ≡ told_of (read_of t room)
+          no_room : room < count → read_of t room ≡ refused (number_of OutputTooShort) 1
           no_room l = rw (good_head, lt-leb (kept_bytes f) room (subst (λ (y : ℕ). room < y) q l))
 
-          by_lines : {r : ReadTold} → count ≤ room → r ≡ told_of (segment_lines (edition f) (nodes f) (segments f) 2 [] f (drop next t))
-              → r ≡ told_of (read_of t room)
-          by_lines l e = rw (good_head, le-leb (kept_bytes f) room (subst (λ (y : ℕ). y ≤ room) q l), place.1) e
+          by_lines : count ≤ room → read_of t room ≡ lines_after f (drop next t)
+          by_lines l = rw (good_head, le-leb (kept_bytes f) room (subst (λ (y : ℕ). y ≤ room) q l), place.1)
+
+some_text : (t : List ℕ) {b : Bool} → b ≡ eqb (length t) 0 → b ≡ false → length t ≡ 0 → ⊥
+some_text t e f = eqb-false _ _ (sym e ∙ f)
 
 -- what a head keeps, of the head's fields
 promised : (f : List ℕ) {head : Head} {count : ℕ} → head ≡ head_fields f → count ≡ 7 + frame_bytes head.edition * head.segments → count ≡ kept_bytes f
 promised f h k = k ∙ ap (λ (x : Head). 7 + frame_bytes x.edition * x.segments) h
 
-pub returns-then-text-eq0 : goal.returns-then-text-eq0
-returns-then-text-eq0 c =
-    empty _ _ c.if-text-eq0.true
+pub returns-then-is_empty : goal.returns-then-is_empty
+returns-then-is_empty c =
+    empty _ _ (eqb-true _ _ (sym c.is_empty.ensures ∙ c.if-is_empty.true))
+
+pub returns-in_err-next : goal.returns-in_err-next
+returns-in_err-next c =
+    let p = err_from_is_err_and c.from_residual.result c.from_residual.ensures.1 in
+    rw (p.1, p.2) (bad_line _ _ (some_text _ c.is_empty.ensures c.if-is_empty.false) c.told-first c.frame_line.ensures c.in_err-next.was)
 
 pub returns-then-not-head_ok : goal.returns-then-not-head_ok
 returns-then-not-head_ok c =
-    wrong_head _ _ c.if-text-eq0.false (framing refl c.frame_line.ensures c.in-Frame.is) (sym c.head_ok.ensures ∙ c.if-not-head_ok.true)
+    wrong_head _ _ (some_text _ c.is_empty.ensures c.if-is_empty.false) (framing c.told-first c.frame_line.ensures c.in_ok-next.was)
+    (sym c.head_ok.ensures ∙ c.if-not-head_ok.true)
 
 pub kept_bytes-requires : goal.kept_bytes-requires
 kept_bytes-requires c =
@@ -97,23 +103,15 @@ kept_bytes-requires c =
 
 pub returns-then-room-kept_bytes : goal.returns-then-room-kept_bytes
 returns-then-room-kept_bytes c =
-    let line = framing refl c.frame_line.ensures c.in-Frame.is in
+    let line = framing c.told-first c.frame_line.ensures c.in_ok-next.was in
     let good = sym c.head_ok.ensures ∙ c.if-not-head_ok.false in
     let count = promised c.frame_line.new.frame c.head_of.ensures c.kept_bytes.ensures in
-    no_room _ _ c.if-text-eq0.false line good count c.if-room-kept_bytes.true
+    no_room _ _ (some_text _ c.is_empty.ensures c.if-is_empty.false) line good count c.if-room-kept_bytes.true
 
-pub judge_segments-requires : goal.judge_segments-requires
-judge_segments-requires c =
-    let good = sym c.head_ok.ensures ∙ c.if-not-head_ok.false in
-    ((place _ 0 c.if-text-eq0.false (framing refl c.frame_line.ensures c.in-Frame.is) good).0, good)
-
-pub returns-in-Faulty : goal.returns-in-Faulty
-returns-in-Faulty c =
-    bad_line _ _ c.if-text-eq0.false refl c.frame_line.ensures c.in-Faulty.is
-
-pub returns-else-room-kept_bytes : goal.returns-else-room-kept_bytes
-returns-else-room-kept_bytes c =
-    let line = framing refl c.frame_line.ensures c.in-Frame.is in
+pub returns : goal.returns
+returns c =
+    let some = some_text _ c.is_empty.ensures c.if-is_empty.false in
+    let line = framing c.told-first c.frame_line.ensures c.in_ok-next.was in
     let good = sym c.head_ok.ensures ∙ c.if-not-head_ok.false in
     let count = promised c.frame_line.new.frame c.head_of.ensures c.kept_bytes.ensures in
-    by_lines _ _ c.if-text-eq0.false line good count c.if-room-kept_bytes.false c.judge_segments.ensures
+    ((place c.args.text.now c.args.room some line good).0, good, by_lines _ _ some line good count c.if-room-kept_bytes.false)
