@@ -2,24 +2,27 @@
 // is looked over once: the first run to arrive from which every movement is within the tolerance labels every exit but the leg of its own arrival. If
 // nothing is to find where that run came from, the run back there is of no use: it is labelled as if the bicycle could turn back, and never queued. Else
 // the next such arrival labels it. After that no arrival there finds anything, and a run that leads there need not be queued.
-ghost use Rattle.std.specs.Prelude.{◌≡◌, ◌≤◌, ◌<◌, leb, length};
+ghost use Rattle.std.specs.Prelude.{Some, ◌≡◌, ◌+◌, ◌≤◌, ◌<◌, leb, length};
 ghost use Rattle.lists.specs.Lists.{at};
+ghost use Rattle.routes.specs.Steps.Labels.{unlabelled};
+ghost use Rattle.frames.specs.Steps.Sizes.{county_feet};
 ghost use Rattle.network.specs.Network.{nodes_of};
-ghost use Rattle.streets.specs.Runs.{start};
+ghost use Rattle.streets.specs.Runs.{start, feet_of};
 ghost use Rattle.streets.specs.Steps.Places.{RunOf};
-ghost use Rattle.search_relaxing.specs.Steps.Counted.{Ready};
-ghost use Rattle.search_relaxing.specs.Steps.Unfound.{nothing};
-ghost use Rattle.search_relaxing.specs.Steps.Choice.{no_legs, right_leg, every_leg, Reaches, Chooses, Relaxable, Offerable, LegRelaxed, EdgesRelaxed};
+ghost use Rattle.search_relaxing.specs.Steps.Counted.{Counted, Ready};
+ghost use Rattle.search_relaxing.specs.Steps.Unfound.{nothing, to_find, note_of, Noteable};
+ghost use Rattle.search_relaxing.specs.Steps.Choice.{right_leg, every_leg, Reaches, Chooses, Relaxable, Visitable, Visited, Offerable, LegRelaxed, EdgesRelaxed};
 ghost use Rattle.search_relaxing.specs.Steps.Choice.{LabelRoom, BackLabelled, Spreads};
 
 use crate::Ask;
 use crate::usable::is_usable;
+use network::corners::run_leaving;
 use search_labels::{NONE, write_label};
 use streets::exits::right_hand_exit;
 use streets::movements::approach_of;
 use streets::runs::{feet_of, finish_of, start_of};
 
-// Nothing is to find at a node. A number below it is 1 + the one leg that is to find, or 0 where any may be.
+// A node's note tells in one byte what is to find there. From NOTHING on nothing is; below it any leg may be at 0, else one may: the note is 1 + that leg.
 pub const NOTHING: u8 = 9;
 
 // The legs of a node but for the leg of arrival.
@@ -34,6 +37,37 @@ pub struct Reached {
     pub leg: usize,
 }
 
+// What is to find at a node: a run without a label by any of its legs, or by one at most, or by none.
+#[derive(Clone, Copy)]
+pub enum ToFind {
+    Any,
+    Leg(usize),
+    Nothing,
+}
+
+// What a note tells.
+fn to_find(note: u8) -> ToFind
+    ensures { result ≡ to_find note }
+{
+    match note {
+        0 => ToFind::Any,
+        NOTHING.. => ToFind::Nothing,
+        next => ToFind::Leg(usize::from(next - 1)),
+    }
+}
+
+// The note that tells it.
+fn note_of(rest: ToFind) -> u8
+    requires { Noteable rest }
+    ensures { result ≡ note_of rest }
+{
+    match rest {
+        ToFind::Any => 0,
+        ToFind::Leg(leg) => 1 + leg as u8,
+        ToFind::Nothing => NOTHING,
+    }
+}
+
 // Onto which legs of the node edges are offered: so many from the first on, going round; whether the way back is labelled too; and what is to find at the
 // node then.
 #[derive(Clone, Copy)]
@@ -41,92 +75,114 @@ pub struct Choice {
     pub first: usize,
     pub count: usize,
     pub back: bool,
-    pub rest: u8,
-}
-
-fn no_legs(rest: u8) -> Choice
-    ensures { result ≡ no_legs rest }
-{
-    Choice {
-        first: 0,
-        count: 0,
-        back: false,
-        rest,
-    }
+    pub rest: ToFind,
 }
 
 // Where only the movement onto the right-hand exit is within the tolerance. (Where no other leg is used, the exit is the leg of arrival itself, and there is
 // no movement.)
-fn right_leg(exit: usize, leg: usize, rest: u8) -> Choice
+#[tactic(auto, unfolding(crate::specs::Steps::Choice::right_leg))]
+fn right_leg(exit: usize, leg: usize, rest: ToFind) -> Option<Choice>
     ensures { result ≡ right_leg exit leg rest }
 {
     if exit == leg {
-        return no_legs(rest);
+        return None;
     }
-    Choice {
+    Some(Choice {
         first: exit,
         count: 1,
         back: false,
         rest,
-    }
+    })
 }
 
 // Where every movement is within the tolerance: onto the seven legs that are not the leg of arrival, or onto the one that is to find.
-fn every_leg(net: &[u8], here: Reached, rest: u8, unfound: &[u8]) -> Choice
+#[tactic(auto, unfolding(crate::specs::Steps::Choice::every_leg))]
+fn every_leg(net: &[u8], here: Reached, rest: ToFind, unfound: &[u8]) -> Option<Choice>
     requires { RunOf net.now here.run × (here.leg < 8) × (nodes_of net.now ≤ length unfound.now) }
     ensures { result ≡ every_leg here.leg rest (leb nothing (at unfound.now (start net.now here.run))) }
 {
     let leg = here.leg;
-    if rest == 0 {
-        if NOTHING <= unfound[start_of(net, here.run)] {
-            return Choice {
-                first: leg + 1,
-                count: OTHERS,
-                back: true,
-                rest: NOTHING,
-            };
-        }
-        return Choice {
+    match rest {
+        ToFind::Any if NOTHING <= unfound[start_of(net, here.run)] => Some(Choice {
+            first: leg + 1,
+            count: OTHERS,
+            back: true,
+            rest: ToFind::Nothing,
+        }),
+        ToFind::Any => Some(Choice {
             first: leg + 1,
             count: OTHERS,
             back: false,
-            rest: 1 + leg as u8,
-        };
-    }
-    let last = (rest - 1) as usize;
-    if last == leg {
-        return no_legs(rest);
-    }
-    Choice {
-        first: last,
-        count: 1,
-        back: false,
-        rest: NOTHING,
+            rest: ToFind::Leg(leg),
+        }),
+        ToFind::Leg(last) if last != leg => Some(Choice {
+            first: last,
+            count: 1,
+            back: false,
+            rest: ToFind::Nothing,
+        }),
+        ToFind::Leg(_) | ToFind::Nothing => None,
     }
 }
 
-// Onto which legs the edges from a run lead that may find a run without a label.
-fn choose(net: &[u8], index: &[u16], ask: Ask, here: Reached, unfound: &[u8]) -> Choice
+// Onto which legs the edges from a run lead that may find a run without a label; none where no edge does.
+fn choose(net: &[u8], index: &[u16], ask: Ask, here: Reached, unfound: &[u8]) -> Option<Choice>
     requires { Ready net.now index.now ask × Reaches net.now ask here × (nodes_of net.now ≤ length unfound.now) }
     ensures { Chooses net.now index.now ask here unfound.now result }
 {
-    let node = here.node;
-    let rest = unfound[node];
-    if NOTHING <= rest {
-        return no_legs(rest);
+    let rest = to_find(unfound[here.node]);
+    if let ToFind::Nothing = rest {
+        return None;
     }
     let approach = approach_of(net, here.run);
     if approach.across <= ask.tolerance {
         return every_leg(net, here, rest, unfound);
     }
     if approach.turn <= ask.tolerance {
-        return right_leg(right_hand_exit(index, node, here.leg), here.leg, rest);
+        return right_leg(right_hand_exit(index, here.node, here.leg), here.leg, rest);
     }
-    no_legs(rest)
+    None
 }
 
-// Visits the run behind an entry of the corner index: a usable run that has no label yet gets the one by way of the run that was reached. It is queued
-// unless it leads where nothing is to find.
+// The label of a run by way of the run that was reached.
+fn label_by(net: &[u8], ask: Ask, here: Reached, run: usize) -> u32
+    requires { Counted net.now ask.runs × (run < ask.runs) × (here.label + county_feet < unlabelled) }
+    ensures { result ≡ here.label + feet_of net.now run }
+{
+    here.label + (feet_of(net, run) as u32)
+}
+
+// Visits a run: a usable run that has no label yet gets the one by way of the run that was reached. It is queued unless it leads where nothing is to find.
+fn visit(
+    net: &[u8],
+    ask: Ask,
+    here: Reached,
+    run: usize,
+    best: &mut [u32],
+    previous: &mut [u32],
+    tree: &mut [u64],
+    unfound: &[u8],
+)
+    requires { Visitable net.now ask here run best.old previous.old tree.old unfound.now }
+    ensures { Visited net.now ask here run unfound.now best.old previous.old
+        best.new previous.new tree.new }
+{
+    if best[run] < NONE {
+        return;
+    }
+    if !is_usable(net, ask.tolerance, run) {
+        return;
+    }
+    let label = label_by(net, ask, here, run);
+    if NOTHING <= unfound[finish_of(net, run)] {
+        best[run] = label;
+        previous[run] = here.run as u32;
+        return;
+    }
+    write_label(ask.runs, run, label, here.run as u32, best, previous, tree);
+}
+
+// Visits the run behind an entry of the corner index, where there is one.
 fn relax_leg(
     net: &[u8],
     ask: Ask,
@@ -141,22 +197,8 @@ fn relax_leg(
     ensures { LegRelaxed net.now ask here entry unfound.now best.old previous.old
         best.new previous.new tree.new }
 {
-    if entry == 0 {
-        return;
-    }
-    let run = (entry - 1) as usize;
-    if best[run] < NONE {
-        return;
-    }
-    if is_usable(net, ask.tolerance, run) {
-        let label = here.label + (feet_of(net, run) as u32);
-        let node = finish_of(net, run);
-        if NOTHING <= unfound[node] {
-            best[run] = label;
-            previous[run] = here.run as u32;
-            return;
-        }
-        write_label(ask.runs, run, label, here.run as u32, best, previous, tree);
+    if let Some(run) = run_leaving(entry) {
+        visit(net, ask, here, run, best, previous, tree, unfound);
     }
 }
 
@@ -173,46 +215,36 @@ fn offer(
     unfound: &[u8],
 )
     requires { Relaxable net.now index.now ask here best.old previous.old tree.old unfound.now
-        × Chooses net.now index.now ask here unfound.now choice }
+        × Chooses net.now index.now ask here unfound.now (Some choice) }
     ensures { EdgesRelaxed net.now ask here unfound.now best.old previous.old
         best.new previous.new tree.new }
 {
     let place = here.node * 8;
-    let mut k = 0;
-    while k < choice.count {
+    for k in 0..choice.count {
         let entry = index[place + (choice.first + k) % 8];
         relax_leg(net, ask, here, entry, best, previous, tree, unfound);
-        k += 1;
     }
 }
 
-// Labels the way back, where it is to be labelled and has no label, whether it may be ridden or not: nothing comes of its label, and it is never queued.
+// Labels the way back, where it has no label, whether it may be ridden or not: nothing comes of its label, and it is never queued.
 fn label_back(
     net: &[u8],
     index: &[u16],
     ask: Ask,
     here: Reached,
-    asked: bool,
     best: &mut [u32],
     previous: &mut [u32],
 )
     requires { Ready net.now index.now ask × Reaches net.now ask here × LabelRoom ask here best.old previous.old }
     ensures { BackLabelled net.now index.now here best.old previous.old
-        best.new previous.new asked }
+        best.new previous.new }
 {
-    if !asked {
-        return;
+    if let Some(back) = run_leaving(index[here.node * 8 + here.leg]) {
+        if NONE <= best[back] {
+            best[back] = label_by(net, ask, here, back);
+            previous[back] = here.run as u32;
+        }
     }
-    let entry = index[here.node * 8 + here.leg];
-    if entry == 0 {
-        return;
-    }
-    let back = (entry - 1) as usize;
-    if best[back] < NONE {
-        return;
-    }
-    best[back] = here.label + (feet_of(net, back) as u32);
-    previous[back] = here.run as u32;
 }
 
 // Relaxes every edge from a run, and notes what is to find at the node where it arrives.
@@ -230,9 +262,12 @@ pub fn relax(
     ensures { Spreads net.now ask here best.old previous.old unfound.old
         best.new previous.new tree.new unfound.new }
 {
-    let node = here.node;
-    let choice = choose(net, index, ask, here, unfound);
+    let Some(choice) = choose(net, index, ask, here, unfound) else {
+        return;
+    };
     offer(net, index, ask, here, choice, best, previous, tree, unfound);
-    label_back(net, index, ask, here, choice.back, best, previous);
-    unfound[node] = choice.rest;
+    if choice.back {
+        label_back(net, index, ask, here, best, previous);
+    }
+    unfound[here.node] = note_of(choice.rest);
 }

@@ -7,12 +7,10 @@ ghost use Rattle.search_relaxing.specs.Steps.Counted.{usable};
 use streets::runs::{is_open, run_level};
 
 // The run is open and not above the tolerance.
+#[tactic(auto, unfolding(crate::specs::Steps::Counted::usable))]
 pub fn is_usable(net: &[u8], tolerance: u8, run: usize) -> bool
     requires { RunOf net.now run }
     ensures { result ≡ usable (bicycle net.now) tolerance run }
 {
-    if is_open(net, run) {
-        return run_level(net, run) <= tolerance;
-    }
-    false
+    is_open(net, run) && run_level(net, run) <= tolerance
 }

@@ -1,6 +1,6 @@
 -- Relaxing in two steps: by reading alone it is chosen onto which legs the edges from a run are offered; then the runs behind those legs get their labels.
 -- Assumes nothing.
-use Rattle.std.specs.Prelude.{◌≡◌, Bool, true, false, cond, List, ℕ, ◌+◌, ◌*◌, ◌-◌, ◌%◌, ◌≤◌, ◌<◌, eqb, length}
+use Rattle.std.specs.Prelude.{◌≡◌, Bool, true, false, cond, List, Option, Some, None, ℕ, ◌+◌, ◌*◌, ◌%◌, ◌≤◌, ◌<◌, eqb, length}
 use Rattle.lists.specs.Lists.{at}
 use Rattle.routes.specs.Steps.Labels.{unlabelled, edge_of}
 use Rattle.frames.specs.Steps.Sizes.{county_feet}
@@ -8,30 +8,28 @@ use Rattle.network.specs.Network.{nodes_of}
 use Rattle.streets.specs.Runs.{start, feet_of}
 use Rattle.streets.specs.Bicycle.{bicycle}
 use Rattle.search_labels.specs.Steps.Labels.{Room}
-use Rattle.search_labels.specs.Steps.Relax.{Offer, Relaxed}
+use Rattle.search_labels.specs.Steps.Relax.{Visit, Offer, Relaxed}
 use Rattle.search_labels.specs.Steps.Search.{Settling}
 use Rattle.search_relaxing.specs.declared.Ask.{Ask}
 use Rattle.search_relaxing.specs.declared.relax.Reached.{Reached}
 use Rattle.search_relaxing.specs.declared.relax.Choice.{Choice}
+use Rattle.search_relaxing.specs.declared.relax.ToFind.{ToFind}
+use Rattle.search_relaxing.specs.declared.relax.ToFind.TheVariants.{Any, Leg, Nothing}
 use Rattle.search_relaxing.specs.Steps.Counted.{Counted, Ready}
-use Rattle.search_relaxing.specs.Steps.Unfound.{nothing, Unfound, spent_of, Arrives, RunBehind, EveryExit, to_usable, to_each, Way, Spread}
+use Rattle.search_relaxing.specs.Steps.Unfound.{nothing, note_of, Noteable, Unfound, spent_of, Arrives, RunBehind, EveryExit, to_usable, to_each, Way, Spread}
 
 -- ---- What is chosen
--- No leg is offered.
-abbrev pub no_legs : ℕ → Choice
-no_legs rest = record { first = 0; count = 0; back = false; rest = rest }
-
 -- Onto the right-hand exit, unless that is the leg of arrival.
-unfoldable pub right_leg : ℕ → ℕ → ℕ → Choice
-right_leg exit leg rest = cond (eqb exit leg) (no_legs rest) (record { first = exit; count = 1; back = false; rest = rest })
+unfoldable pub right_leg : ℕ → ℕ → ToFind → Option Choice
+right_leg exit leg rest = cond (eqb exit leg) None (Some (record { first = exit; count = 1; back = false; rest = rest }))
 
--- Onto every other leg than that of arrival, where nothing is said of the node: then only the way back may be to find, or nothing where it is spent and
--- labelled too. Where one leg is to find, onto that one, unless it is the leg of arrival.
-unfoldable pub every_leg : ℕ → ℕ → Bool → Choice
-every_leg leg rest spent =
-    cond (eqb rest 0)
-    (cond spent (record { first = leg + 1; count = 7; back = true; rest = nothing }) (record { first = leg + 1; count = 7; back = false; rest = 1 + leg }))
-    (cond (eqb (rest - 1) leg) (no_legs rest) (record { first = rest - 1; count = 1; back = false; rest = nothing }))
+-- Onto every other leg than that of arrival, where any may be to find: then only the way back may be, or nothing where it is spent and labelled too.
+-- Where one leg is to find, onto that one, unless it is the leg of arrival.
+unfoldable pub every_leg : ℕ → ToFind → Bool → Option Choice
+every_leg leg Any spent =
+    cond spent (Some (record { first = leg + 1; count = 7; back = true; rest = Nothing })) (Some (record { first = leg + 1; count = 7; back = false; rest = Leg leg }))
+every_leg leg (Leg last) spent = cond (eqb last leg) None (Some (record { first = last; count = 1; back = false; rest = Nothing }))
+every_leg leg Nothing spent = None
 
 -- ---- What holds of a choice
 -- The entry of the corner index at the leg k after the first, going round.
@@ -55,7 +53,17 @@ pub record Chosen (net index : List ℕ) (t n u node leg : ℕ) (unfound : List 
   pub ways : (k : ℕ) → k < c.count → Way net t n u (entry_after index node c.first k)
   pub every : (best : List ℕ) → Unfound net t n best unfound → (r : ℕ) → r < n → unlabelled ≤ at best r → edge_of (bicycle net) t u r ≡ true
       → (k : ℕ) × (k < c.count) × (entry_after index node c.first k ≡ r + 1)
-  pub afterwards : Rest net t u node leg unfound c.back c.rest
+  pub afterwards : Rest net t u node leg unfound c.back (note_of c.rest)
+  pub noted : Noteable c.rest
+
+-- Where no leg is offered, no edge leads to a run without a label.
+abbrev pub NoEdge : List ℕ → ℕ → ℕ → ℕ → List ℕ → Type 0
+NoEdge net t n u unfound =
+    (best : List ℕ) → Unfound net t n best unfound → (r : ℕ) → r < n → unlabelled ≤ at best r → edge_of (bicycle net) t u r ≡ true → ⊥
+
+abbrev pub ChosenOf : List ℕ → List ℕ → ℕ → ℕ → ℕ → ℕ → ℕ → List ℕ → Option Choice → Type 0
+ChosenOf net index t n u node leg unfound (Some c) = Chosen net index t n u node leg unfound c
+ChosenOf net index t n u node leg unfound None = NoEdge net t n u unfound
 
 -- ---- The same at what a search is asked and the run that it settles
 -- The run is one of the runs, and arrives where it is said to.
@@ -63,8 +71,8 @@ pub record Reaches (net : List ℕ) (ask : Ask) (here : Reached) : Type 0 where
   pub inside : here.run < ask.runs
   pub arrives : Arrives net here.run here.node here.leg
 
-abbrev pub Chooses : List ℕ → List ℕ → Ask → Reached → List ℕ → Choice → Type 0
-Chooses net index ask here unfound c = Chosen net index ask.tolerance ask.runs here.run here.node here.leg unfound c
+abbrev pub Chooses : List ℕ → List ℕ → Ask → Reached → List ℕ → Option Choice → Type 0
+Chooses net index ask here unfound c = ChosenOf net index ask.tolerance ask.runs here.run here.node here.leg unfound c
 
 abbrev pub Relaxing : List ℕ → Ask → Reached → List ℕ → List ℕ → List ℕ → List ℕ → Type 0
 Relaxing net ask here unfound best previous tree =
@@ -76,6 +84,18 @@ pub record Relaxable (net index : List ℕ) (ask : Ask) (here : Reached) (best p
   pub reaches : Reaches net ask here
   pub right : Unfound net ask.tolerance ask.runs best unfound
   pub settling : Relaxing net ask here unfound best previous tree
+
+-- A run may be visited.
+pub record Visitable (net : List ℕ) (ask : Ask) (here : Reached) (run : ℕ) (best previous tree unfound : List ℕ) : Type 0 where
+  pub counted : Counted net ask.runs
+  pub within : run < ask.runs
+  pub long : nodes_of net ≤ length unfound
+  pub settling : Relaxing net ask here unfound best previous tree
+
+-- It was visited: if it is usable, and had no label, it got one.
+pub record Visited (net : List ℕ) (ask : Ask) (here : Reached) (run : ℕ) (unfound best previous best' previous' tree' : List ℕ) : Type 0 where
+  pub visit : Visit (to_usable net ask.tolerance) (feet_of net) here.run here.label run best previous best' previous'
+  pub settling : Relaxing net ask here unfound best' previous' tree'
 
 -- The run behind an entry may be offered.
 pub record Offerable (net : List ℕ) (ask : Ask) (here : Reached) (entry : ℕ) (best previous tree unfound : List ℕ) : Type 0 where
@@ -100,12 +120,10 @@ pub record LabelRoom (ask : Ask) (here : Reached) (best previous : List ℕ) : T
   pub label : here.label + county_feet < unlabelled
   pub scratch : Room ask.runs best previous
 
--- The way back was labelled, if it was to be: it stands at the entry of the leg of arrival.
-pub data BackLabelled (net index : List ℕ) (here : Reached) (best previous best' previous' : List ℕ) (back : Bool) : Type 0 where
-  unasked : back ≡ false → best' ≡ best → previous' ≡ previous → BackLabelled net index here best previous best' previous' back
-  labelled : back ≡ true
-      → Offer to_each (feet_of net) here.run here.label (at index (here.node * 8 + here.leg)) best previous best' previous'
-      → BackLabelled net index here best previous best' previous' back
+-- The way back was labelled: it stands at the entry of the leg of arrival.
+abbrev pub BackLabelled : List ℕ → List ℕ → Reached → List ℕ → List ℕ → List ℕ → List ℕ → Type 0
+BackLabelled net index here best previous best' previous' =
+    Offer to_each (feet_of net) here.run here.label (at index (here.node * 8 + here.leg)) best previous best' previous'
 
 abbrev pub Spreads : List ℕ → Ask → Reached → List ℕ → List ℕ → List ℕ → List ℕ → List ℕ → List ℕ → List ℕ → Type 0
 Spreads net ask here best previous unfound best' previous' tree' unfound' =

@@ -1,9 +1,9 @@
--- What is still to find at a node: which usable runs that leave it may be without a label. It is one number for each node: 0 says nothing; 1 + a leg, that
--- every usable run has its label but, it may be, the one that leaves by that leg; `nothing` or more, that every one has. A run that arrives where nothing
+-- What is still to find at a node: which usable runs that leave it may be without a label. It is noted in one number for each node: 0 says nothing; 1 + a
+-- leg, that every usable run has its label but, it may be, the one that leaves by that leg; `nothing` or more, that every one has. A run that arrives where nothing
 -- is to find is spent. Where the run that is settled comes from such a node, the run back there is spent: it is given a label as if a bicycle could turn
 -- back, whether it may be ridden or not, which no route does and no search needs, and nothing is to find at the node then.
 -- Assumes nothing.
-use Rattle.std.specs.Prelude.{◌≡◌, Bool, true, ◌&&◌, ◌||◌, List, ℕ, ◌+◌, ◌≤◌, ◌<◌, max, leb, eqb, length}
+use Rattle.std.specs.Prelude.{◌≡◌, Bool, true, ◌&&◌, ◌||◌, cond, List, ℕ, zero, suc, ◌+◌, ◌≤◌, ◌<◌, max, leb, eqb, length}
 use Rattle.routes.specs.Reach.{is_marked}
 use Rattle.routes.specs.Steps.Labels.{unlabelled, edge_of}
 use Rattle.lists.specs.Lists.{at}
@@ -14,11 +14,29 @@ use Rattle.streets.specs.Bicycle.{bicycle, arrival_turn_level, arrival_crossing_
 use Rattle.streets.specs.Steps.Places.{NodeOf, LegOf}
 use Rattle.search_labels.specs.Steps.Relax.{Relaxed}
 use Rattle.search_labels.specs.Steps.Search.{Settling, WayBack}
+use Rattle.search_relaxing.specs.declared.relax.ToFind.{ToFind}
+use Rattle.search_relaxing.specs.declared.relax.ToFind.TheVariants.{Any, Leg, Nothing}
 use Rattle.search_relaxing.specs.Steps.Counted.{usable}
 
 -- Above 1 + a leg, whichever leg it is.
 abbrev pub nothing : ℕ
 nothing = 9
+
+-- What a number tells, and the number that tells it.
+abbrev pub to_find : ℕ → ToFind
+to_find zero = Any
+to_find (suc leg) = cond (leb 8 leg) Nothing (Leg leg)
+
+abbrev pub note_of : ToFind → ℕ
+note_of Any = 0
+note_of (Leg leg) = 1 + leg
+note_of Nothing = nothing
+
+-- The leg is one of eight.
+abbrev pub Noteable : ToFind → Type 0
+Noteable Any = Unit {0}
+Noteable (Leg leg) = leg < 8
+Noteable Nothing = Unit {0}
 
 -- Before the search no number says anything.
 pub record Unknown (nodes : ℕ) (unfound : List ℕ) : Type 0 where

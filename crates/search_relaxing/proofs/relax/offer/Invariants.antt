@@ -1,8 +1,5 @@
 -- The legs that were chosen are offered in turn. Every edge to a run without a label leads onto one behind one of their entries: after the last every edge
 -- is relaxed.
-use mathlib.Core.Path.{◌≡◌}
-use Prim.Native.Nat.{◌-◌, ◌≤◌}
-use lib.ListN.{length}
 use Rattle.routes.specs.Steps.Labels.{edge_of}
 use Rattle.streets.specs.Runs.{feet_of}
 use Rattle.streets.specs.Bicycle.{bicycle}
@@ -12,12 +9,6 @@ use Rattle.search_relaxing.proofs.relax.offer.Given as goal
 
 abbrev pub invariant-loop-k : goal.invariant-loop-k
 invariant-loop-k l =
-    (l.k ≤ l.choice.count)
-    × Offered (edge_of (bicycle l.net) l.ask.tolerance) (feet_of l.net) l.here.run l.here.label (entry_after l.index l.here.node l.choice.first) l.k l.initial.best l.initial.previous
-    l.best l.previous
+    Offered (edge_of (bicycle l.net) l.ask.tolerance) (feet_of l.net) l.here.run l.here.label (entry_after l.index l.here.node l.choice.first) l.k
+    l.initial.best l.initial.previous l.best l.previous
     × Relaxing l.net l.ask l.here l.unfound l.best l.previous l.tree
-    × (length l.tree ≡ length l.initial.tree)
-
-abbrev pub decreases-loop-k : goal.decreases-loop-k
-decreases-loop-k l =
-    l.choice.count - l.k

@@ -1,75 +1,57 @@
 -- Labels are cleared, and then the eight entries of the start are taken in turn, with the record `Started` kept. The run behind an entry leaves the
 -- start, so of it "usable" is "a source"; and a source leaves the start, so it is behind one of the eight entries.
-use mathlib.Core.Path.{◌≡◌, refl, ◌∙◌}
+use mathlib.Core.Path.{◌≡◌, ◌∙◌}
+use mathlib.Core.List.{List}
+use Prim.Native.Nat.{ℕ, ◌+◌, ◌-◌, ◌*◌, ◌<◌}
+use lib.ListN.{take, drop, length-take, length-drop}
+use Rattle.std.proofs.lemmas.List.{get_or-take, get_or-drop}
+use Rattle.lists.specs.Lists.{at}
 use Rattle.routes.proofs.Walks.{true_source}
 use Rattle.streets.specs.Bicycle.{bicycle}
 use Rattle.streets.proofs.LeavingLaws.{entry_leaves, leaving_entry}
-use Rattle.search_labels.proofs.Beginning.{started_none, started_keys, started_more, started_begun, started_queued}
+use Rattle.search_labels.proofs.Beginning.{started_keys, started_more, started_begun, started_queued}
 use Rattle.search_relaxing.proofs.CountedLaws.{run_of, fair, entry_few}
 use Rattle.search_relaxing.proofs.TestLaws.{source_usable}
 use native.Mathlib.Omega.{arith}
 use Rattle.search_rounds.proofs.begin.begin.Goals as goal
 
-pub clear_labels-requires : goal.clear_labels-requires
-clear_labels-requires c =
-    c.requires.1.best_fits
-
-pub loop-leg-init : goal.loop-leg-init
-loop-leg-init c =
-    (omega arith, started_none c.clear_labels.ensures c.requires.2 _ _ _, refl, refl, refl)
-
-pub overflow_mul-ask : goal.overflow_mul-ask
-overflow_mul-ask c =
-    omega (arith, c.requires.0.from_node, c.requires.0.indexed.room)
-
-pub overflow_add-ask : goal.overflow_add-ask
-overflow_add-ask c =
-    omega (arith, c.requires.0.from_node, c.requires.0.indexed.room)
-
-pub offset_bounds-index-ask : goal.offset_bounds-index-ask
-offset_bounds-index-ask c =
-    omega (arith, c.requires.0.from_node, c.requires.0.indexed.room)
-
-pub bounds-index-ask : goal.bounds-index-ask
-bounds-index-ask c =
-    omega (arith, c.requires.0.from_node, c.requires.0.indexed.room)
+-- An entry of the start is one of the eight from its place on.
+entry_at : (index : List ℕ) (place leg : ℕ) → leg < 8 → at (take (place + 8 - place) (drop place index)) leg ≡ at index (place + leg)
+entry_at index place leg l = get_or-take (place + 8 - place) (drop place index) leg 0 (omega arith) ∙ get_or-drop place index leg 0
 
 pub begin_at-requires : goal.begin_at-requires
 begin_at-requires c =
     let R = c.requires.0 in
-    let i = c.loop-leg.invariant in
+    let S = c.loop-entry.invariant in
+    let leg : c.loop-entry.entry-index < 8 = omega (arith, length-take {A = ℕ}) in
     record {
       counted = R.counted;
-      few = entry_few R.counted (entry_leaves c.args.net.now R.counted.network R.indexed R.from_node c.loop-leg-test.true);
+      few = rw (entry_at c.args.index.now (c.args.ask.from * 8) c.loop-entry.entry-index leg)
+          (entry_few R.counted (entry_leaves c.args.net.now R.counted.network R.indexed R.from_node leg));
       room =
           record {
-            best_fits = omega (arith, c.requires.1.best_fits, i.2, c.clear_labels.auto.best);
-            previous_fits = omega (arith, c.requires.1.previous_fits, i.3);
+            best_fits = omega (arith, c.requires.1.best_fits, c.loop-entry.auto.best, c.clear_labels.auto.best);
+            previous_fits = omega (arith, c.requires.1.previous_fits, c.loop-entry.auto.previous);
           };
-      queue = i.1.queue;
-      none_earlier = started_keys i.1 (fair R.counted);
+      queue = S.queue;
+      none_earlier = started_keys S (fair R.counted);
     }
 
-pub loop-leg-preserved : goal.loop-leg-preserved
-loop-leg-preserved c =
+pub loop-entry-preserved : goal.loop-entry-preserved
+loop-entry-preserved c =
     let R = c.requires.0 in
-    let i = c.loop-leg.invariant in
-    let o = c.begin_at in
-    let E = entry_leaves c.args.net.now R.counted.network R.indexed R.from_node c.loop-leg-test.true in (
-      omega (arith, c.loop-leg-test.true),
-      started_more i.1 (λ r x. let L = E.leaving r x in (omega (arith, R.counted.count, L.inside), source_usable L c.args.ask.tolerance))
-          (omega (arith, c.requires.1.best_fits, i.2, c.clear_labels.auto.best)) (omega (arith, c.requires.1.previous_fits, i.3))
-          o.ensures,
-      o.auto.best ∙ i.2,
-      o.auto.previous ∙ i.3,
-      o.auto.tree ∙ i.4,
-    )
+    let leg : c.loop-entry.entry-index < 8 = omega (arith, length-take {A = ℕ}) in
+    let E = entry_leaves c.args.net.now R.counted.network R.indexed R.from_node leg in
+    started_more c.loop-entry.invariant (λ r x. let L = E.leaving r x in (omega (arith, R.counted.count, L.inside), source_usable L c.args.ask.tolerance))
+    (omega (arith, c.requires.1.best_fits, c.loop-entry.auto.best, c.clear_labels.auto.best))
+    (omega (arith, c.requires.1.previous_fits, c.loop-entry.auto.previous))
+    (rw (entry_at c.args.index.now (c.args.ask.from * 8) c.loop-entry.entry-index leg) at c.begin_at.ensures)
 
 pub returns : goal.returns
 returns c =
     let R = c.requires.0 in
-    let e : c.loop-leg.leg ≡ 8 = omega arith in
-    let S = rw e at c.loop-leg.invariant.1 in
+    let e : c.loop-entry.entry-index ≡ 8 = omega (arith, R.from_node, R.indexed.room, length-take {A = ℕ}, length-drop {A = ℕ}) in
+    let S = rw e at c.loop-entry.invariant in
     record {
       labels =
           started_begun S

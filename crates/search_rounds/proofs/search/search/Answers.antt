@@ -9,18 +9,6 @@ use Rattle.search_relaxing.proofs.UnfoundLaws.{unfound_apart, unfound_begun, unf
 use native.Mathlib.Omega.{arith}
 use Rattle.search_rounds.proofs.search.search.Goals as goal
 
-pub begin-requires : goal.begin-requires
-begin-requires c =
-    (c.requires.0.ready, c.requires.1, c.requires.2.empty)
-
-pub bounds-unfound-from : goal.bounds-unfound-from
-bounds-unfound-from c =
-    omega (arith, c.requires.0.ready.from_node, c.requires.2.unknown.long)
-
-pub least-key-requires : goal.least-key-requires
-least-key-requires c =
-    c.begin.ensures.queued.queue
-
 pub loop-key-init : goal.loop-key-init
 loop-key-init c =
     let R = c.requires.0.ready in
@@ -50,9 +38,11 @@ is_goal-requires c = (
 pub returns-then-is_goal : goal.returns-then-is_goal
 returns-then-is_goal c =
     let i = c.loop-key.invariant in
-    let T = c.requires.0.ready.counted in
-    search_stops (fair T) i.search (unfound_spent T c.args.ask.from c.args.goals.now i.right i.unnoted) (omega (arith, c.requires.0.limited, c.loop-key-test.true))
-    (rw c.run_in.ensures at (sym c.is_goal.ensures ∙ c.if-is_goal.true))
+    let T = c.requires.0.ready.counted in (
+      c.loop-key-test.true,
+      search_stops (fair T) i.search (unfound_spent T c.args.ask.from c.args.goals.now i.right i.unnoted) (omega (arith, c.requires.0.limited, c.loop-key-test.true))
+          (rw c.run_in.ensures at (sym c.is_goal.ensures ∙ c.if-is_goal.true)),
+    )
 
 pub settle-key-requires : goal.settle-key-requires
 settle-key-requires c =
@@ -87,5 +77,8 @@ loop-key-preserved c =
     }
 
 pub returns : goal.returns
-returns c =
-    search_ends (fair c.requires.0.ready.counted) c.loop-key.invariant.search c.loop-key-test.false
+returns c = (
+  c.loop-key.key,
+  c.loop-key-test.false,
+  search_ends (fair c.requires.0.ready.counted) c.loop-key.invariant.search c.loop-key-test.false,
+)
