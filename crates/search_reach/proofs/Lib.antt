@@ -1,5 +1,4 @@
 pub mod ArrivalLaws
 pub mod LabelsBehind
 pub mod Listing
-pub mod Nearness
 pub mod ReachLaws

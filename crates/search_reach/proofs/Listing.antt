@@ -7,28 +7,12 @@ use mathlib.Core.List.{List}
 use Prim.Native.Nat.{ℕ, zero, suc, ◌+◌, ◌*◌, ◌/◌, ◌≤◌, ◌<◌}
 use lib.Dec.{leb}
 use lib.ListN.{length, set, length-set}
-use borrow.Author.Tests.{le-leb, lt-leb}
 use native.Mathlib.Omega.{arith}
 use Rattle.lists.specs.Placed.{placed}
 use Rattle.lists.proofs.Facts.{bool_cases}
-use Rattle.lists.proofs.Lists.{takes, passes}
 use Rattle.lists.proofs.PlacedLaws.{placed_nothing, placed_two}
 use Rattle.routes.specs.Reach.{numbers}
 use Rattle.routes.specs.Steps.Reach.{entries_of}
-use Rattle.search_reach.specs.Steps.Arrivals.{length_to}
-use Rattle.search_reach.specs.Steps.Map.{NodeListed}
-
--- one node: it is farther and nothing is written; or its entry is
-module _ {index best : List ℕ} {from farthest node far : ℕ} (list : List ℕ) (place : ℕ) (e : far ≡ length_to index best from node) where
-  pub node_outside : farthest < far → NodeListed index best from farthest node list list place place
-  node_outside h =
-      let t : leb (length_to index best from node) farthest ≡ false = lt-leb _ _ (rw e at h) in
-      record { text = passes _ _ t refl; behind = passes _ _ t refl }
-
-  pub node_inside : far ≤ farthest → NodeListed index best from farthest node list (set (set list place node) (place + 1) far) place (place + 2)
-  node_inside h =
-      let t : leb (length_to index best from node) farthest ≡ true = le-leb _ _ (rw e at h) in
-      record { text = rw e (takes _ _ t); behind = takes _ _ t }
 
 -- The nodes below `node` are passed, with `left` nodes left; the next entry goes to the place.
 pub record Listing (near : ℕ → ℕ) (farthest nodes : ℕ) (before list : List ℕ) (place node : ℕ) : Type 0 where

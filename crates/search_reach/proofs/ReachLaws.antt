@@ -4,17 +4,19 @@
 -- route to one is shorter than the label where the search stopped: the first node that is no farther is the nearest, and where the search came to its
 -- end there is none.
 -- Assumes nothing.
+use Rattle.std.specs.Prelude.{Option, Some, None}
 use mathlib.Core.Path.{◌≡◌, refl, sym, ◌∙◌, ap, subst}
 use mathlib.Core.Bool.{Bool, true, false, not, true≢false}
 use mathlib.Core.List.{List, ◌++◌}
-use mathlib.Core.Logic.{◌⊎◌, inl, inr, ⊎_elim}
+use mathlib.Core.Logic.{⊎_elim}
 use Prim.Native.Nat.{ℕ, ◌+◌, ◌*◌, ◌-◌, ◌≤◌, ◌<◌}
 use native.Mathlib.Omega.{arith}
 use lib.Dec.{eqb, ltb}
 use lib.ListN.{length, drop}
-use borrow.Author.Tests.{ltb-false, not-false, lt-ltb, le-ltb, eq-eqb, ne_eqb, eqb-true}
+use borrow.Author.Tests.{ltb-false, not-false, le-ltb, eq-eqb, ne_eqb, eqb-true}
 use Rattle.lists.specs.Lists.{at}
 use Rattle.lists.proofs.Facts.{and_true, false_or, lt_or_ge}
+use Rattle.lists.proofs.Lists.{true_is_false}
 use Rattle.routes.specs.Reach.{numbers, ReachMap, MapWritten, is_marked, NoneMarked}
 use Rattle.routes.specs.Steps.Labels.{Graph, graph_of, unlabelled, Paved, First, Next, Follows}
 use Rattle.routes.specs.Steps.Reach.{Attained, Distances, entries_of}
@@ -39,11 +41,11 @@ use Rattle.search_relaxing.specs.Steps.Unfound.{Unknown, turns_back}
 use Rattle.search_relaxing.proofs.CountedLaws.{counted, fair, run_of}
 use Rattle.search_relaxing.proofs.TestLaws.{turns_back_lem}
 use Rattle.search_rounds.specs.declared.explore.Met.{Met}
-use Rattle.search_rounds.specs.Steps.Searches.{StopsAt, Meets}
+use Rattle.search_rounds.specs.Steps.Searches.{StopsAt, MetAt, Meets}
 use Rattle.search_routes.specs.Steps.Answered.{Unmarked}
 use Rattle.search_reach.specs.Steps.Arrivals.{least_arrival, length_to}
 use Rattle.search_reach.specs.Steps.Map.{clamped, AskedAt, NodesListed}
-use Rattle.search_reach.specs.Steps.Nearest.{is_far, Marks, SomeNear, FirstNear, NearFound}
+use Rattle.search_reach.specs.Steps.Nearest.{is_far, Marks, AllMarkable, FirstNear, NearFound}
 use Rattle.search_reach.proofs.ArrivalLaws.{looked_at, least_arrival_lem}
 
 -- ---- the lengths that the code reads, at the start and elsewhere
@@ -134,28 +136,21 @@ module _ (marks : List ℕ) (v : ℕ) where
   unfolding is_marked
   not_marked e = ap not (eq-eqb (at marks v) 0 e)
 
--- a question at one tolerance has stopped at it
-pub stop_asked : {net : List ℕ} {ask : Ask} {goals best previous : List ℕ} {met : Met} → ask.least ≡ ask.tolerance
-    → Meets net ask goals best previous met → StopsAt net ask ask.tolerance goals best previous met.key
-stop_asked {ask = ask} {met = met} one M =
+-- an exploration at one tolerance has stopped at it: where it met a goal, and where it met none
+pub stop_met : {net : List ℕ} {ask : Ask} {goals best previous : List ℕ} {met : Met} → ask.least ≡ ask.tolerance
+    → MetAt net ask goals best previous met → StopsAt net ask ask.tolerance goals best previous met.key
+stop_met {ask = ask} {met = met} one M =
     let e : met.tolerance ≡ ask.tolerance = omega (arith, M.low, M.high) in
     rw e at M.stop
 
--- ---- the map
-clamped_either : (greatest : ℕ)
-    → ((greatest < unlabelled) × (clamped greatest ≡ greatest)) ⊎ ((unlabelled ≤ greatest) × (clamped greatest ≡ unlabelled - 1))
-clamped_either greatest =
-    ⊎_elim
-    (λ (h : greatest < unlabelled). inl (h, rw (lt-ltb greatest unlabelled h)))
-    (λ (h : unlabelled ≤ greatest). inr (h, rw (le-ltb greatest unlabelled h)))
-    (lt_or_ge greatest unlabelled)
+pub stop_asked : (net : List ℕ) (ask : Ask) (goals best previous : List ℕ) → ask.least ≡ ask.tolerance → (met : Option Met)
+    → Meets net ask goals best previous met → (m : ℕ) × StopsAt net ask ask.tolerance goals best previous m
+stop_asked net ask goals best previous one (Some met) M = (met.key, stop_met one M)
+stop_asked net ask goals best previous one None M = (M.0, M.2)
 
+-- ---- the map
 pub clamped_small : (greatest : ℕ) → clamped greatest < unlabelled
-clamped_small greatest =
-    ⊎_elim
-    (λ (s : (greatest < unlabelled) × (clamped greatest ≡ greatest)). omega (arith, s.0, s.1))
-    (λ (s : (unlabelled ≤ greatest) × (clamped greatest ≡ unlabelled - 1)). omega (arith, s.1))
-    (clamped_either greatest)
+clamped_small greatest = omega arith
 
 pub unmarked_node : {nodes : ℕ} {goals : List ℕ} → Unknown nodes goals → (v : ℕ) → v < nodes → is_marked goals v ≡ false
 unmarked_node {goals = goals} U v l = not_marked goals v (U.none v l)
@@ -190,13 +185,13 @@ module _ {net index : List ℕ} {ask : Ask} (A : AskedAt net index ask) where
       let es = entries_of (length_to index best a) (clamped greatest) 0 (nodes_of net) in
       let M = distances_map (stop_distances Y t S A.low low (clamped_small greatest)) in
       ⊎_elim
-      (λ (s : (greatest < unlabelled) × (clamped greatest ≡ greatest)). subst (λ (f : ℕ). ReachMap g (nodes_of net) t a f es) s.1 M)
-      (λ (s : (unlabelled ≤ greatest) × (clamped greatest ≡ unlabelled - 1)).
-      map_clamped (omega (arith, s.0, s.1))
+      (λ (h : greatest < unlabelled). let e : clamped greatest ≡ greatest = omega arith in subst (λ (f : ℕ). ReachMap g (nodes_of net) t a f es) e M)
+      (λ (h : unlabelled ≤ greatest).
+      map_clamped (omega arith)
       (some_short g t a (at best) (clamped greatest) (follows_less low (whole_stop Y t S).stop.follows) A.low (stop_attained Y t S A.low)
-      (λ r l h. omega (arith, stop_room Y t S r l h, s.1)))
+      (λ r l k. omega (arith, stop_room Y t S r l k, h)))
       M)
-      (clamped_either greatest)
+      (lt_or_ge greatest unlabelled)
 
   pub map_from_stop : {goals best previous before after : List ℕ} {greatest farthest limit m count : ℕ} → Unmarked net goals
       → farthest ≡ clamped greatest → limit ≡ label_key farthest 0
@@ -241,6 +236,11 @@ pub start_near : {net index : List ℕ} {ask : Ask} {marks : List ℕ} → Asked
 start_near {ask = ask} A m =
     record { nearest = start_nearest A.low (paved A.ready ask.tolerance) A.ready.from_node m; small = omega arith }
 
+-- every node may be asked
+pub all_markable : {net index : List ℕ} {ask : Ask} {marks best : List ℕ} → AskedAt net index ask → Marks net marks → ask.runs ≤ length best
+    → AllMarkable index best marks (nodes_of net)
+all_markable A K fits node l = record { looked = looked_at A.ready fits node l; marked = omega (arith, K.fits) }
+
 module _ {net index : List ℕ} {ask : Ask} (A : AskedAt net index ask) {marks : List ℕ} (K : Marks net marks)
     (off : is_marked marks ask.from ≡ false) {best previous : List ℕ} {m : ℕ} (S : StopsAt net ask ask.tolerance marks best previous m) where
   apart_marked : (b : ℕ) → is_marked marks b ≡ true → ask.from ≡ b → ⊥
@@ -259,25 +259,20 @@ module _ {net index : List ℕ} {ask : Ask} (A : AskedAt net index ask) {marks :
   stop_none_marked l b i h = (marked_far b h).none (omega arith)
 
   module _ (l : m < top) where
-    -- the run that was met arrives at a marked node, no farther than its label
-    pub stop_some_near : ask.runs ≤ length best → SomeNear index best ask.from marks (label_in m) (nodes_of net)
+    -- the run that was met arrives at a marked node, no farther than its label: not every node is far
+    pub stop_some_near : ((b : ℕ) → b < nodes_of net → is_far index best ask.from marks (label_in m) b ≡ true) → ⊥
     unfolding goal_at
-    stop_some_near fits =
+    stop_some_near far =
         let Y = A.ready in
         let met = S.stop.whose l in
         let v = finish net (run_in m) in
         let inside = finish_below (run_of Y.counted met.inside) in
         let goal : is_marked marks v ≡ true = S.stop.goal_met (omega (arith, A.whole)) in
         let low = (least_arrival_lem Y best v inside).least (run_in m) (omega (arith, Y.counted.count, met.inside)) refl in
-        record {
-          looked = looked_at Y fits;
-          fits = K.fits;
-          some = v;
-          inside = inside;
-          near =
-              is_near index best ask.from marks (label_in m) v goal
-              (omega (arith, length_elsewhere index best ask.from v (apart_marked v goal), low, met.exact));
-        }
+        true_is_false
+        (is_near index best ask.from marks (label_in m) v goal
+        (omega (arith, length_elsewhere index best ask.from v (apart_marked v goal), low, met.exact)))
+        (far v inside)
 
     -- the first marked node that is no farther is the nearest
     pub stop_near : {node : ℕ} → FirstNear index best ask.from marks (label_in m) (nodes_of net) node

@@ -1,25 +1,16 @@
 // How far a node is: the least label of the runs that arrive there. They arrive by its eight legs, each the opposite of the run that leaves by the leg.
-ghost use Rattle.std.specs.Prelude.{◌≡◌, min};
+ghost use Rattle.std.specs.Prelude.{◌≡◌};
 ghost use Rattle.search_reach.specs.Steps.Arrivals.{label_behind, least_arrival, length_to, Looked, LookedAt};
 
+use network::corners::run_leaving;
 use search_labels::NONE;
-
-fn lesser(a: u32, b: u32) -> u32
-    ensures { result ≡ min a b }
-{
-    if a < b { a } else { b }
-}
 
 // The label of the run that arrives by a leg, whose entry of the corner index this is; NONE where the leg is free.
 fn label_behind(entry: u16, best: &[u32]) -> u32
     requires { Looked entry best.now }
     ensures { result ≡ label_behind best.now entry }
 {
-    if entry == 0 {
-        return NONE;
-    }
-    let leaving = (entry - 1) as usize;
-    best[leaving + 1 - 2 * (leaving % 2)]
+    run_leaving(entry).map_or(NONE, |leaving| best[leaving ^ 1])
 }
 
 // The least label of the runs that arrive at a node; NONE where none of them has one.
@@ -29,10 +20,8 @@ fn least_arrival(index: &[u16], best: &[u32], node: usize) -> u32
 {
     let place = node * 8;
     let mut least = NONE;
-    let mut leg = 0;
-    while leg < 8 {
-        least = lesser(label_behind(index[place + leg], best), least);
-        leg += 1;
+    for entry in &index[place..place + 8] {
+        least = label_behind(*entry, best).min(least);
     }
     least
 }

@@ -17,10 +17,7 @@ use streets::runs::nodes_of;
 fn clamp(greatest: usize) -> u32
     ensures { result ≡ clamped greatest }
 {
-    if greatest < (NONE as usize) {
-        return greatest as u32;
-    }
-    NONE - 1
+    greatest.min(NONE as usize - 1) as u32
 }
 
 // Writes the entry of a node at a place of the list, if it is no farther, and gives the place behind it.
@@ -59,10 +56,8 @@ fn list_nodes(
     ensures { NodesListed index.now best.now from farthest nodes list.old list.new result }
 {
     let mut place = 0;
-    let mut node = 0;
-    while node < nodes {
+    for node in 0..nodes {
         place = list_node(index, best, from, farthest, node, list, place);
-        node += 1;
     }
     place / 2
 }
@@ -85,11 +80,8 @@ pub fn reach(
 {
     let farthest = clamp(greatest);
     let limited = Ask {
-        runs: ask.runs,
-        least: ask.least,
-        tolerance: ask.tolerance,
-        from: ask.from,
         limit: key_of(farthest, 0),
+        ..ask
     };
     explore(net, index, limited, goals, best, previous);
     list_nodes(index, best, ask.from, farthest, nodes_of(net), list)

@@ -5,7 +5,7 @@ ghost use Rattle.network.specs.Network.{nodes_of};
 ghost use Rattle.streets.specs.Bicycle.{bicycle};
 ghost use Rattle.search_labels.specs.Steps.Labels.{Room};
 ghost use Rattle.search_reach.specs.Steps.Map.{AskedAt};
-ghost use Rattle.search_reach.specs.Steps.Nearest.{is_far, Marks, Markable, SomeNear, FirstNear, Nearby};
+ghost use Rattle.search_reach.specs.Steps.Nearest.{is_far, Marks, Markable, AllMarkable, FirstOf, Nearby};
 
 use crate::arrivals::length_to;
 use routes::Entry;
@@ -19,13 +19,10 @@ fn is_far(index: &[u16], best: &[u32], from: usize, marks: &[u8], length: u32, n
     requires { Markable index.now best.now marks.now node }
     ensures { result ≡ is_far index.now best.now from marks.now length node }
 {
-    if marks[node] == 0 {
-        return true;
-    }
-    length < length_to(index, best, from, node)
+    marks[node] == 0 || length < length_to(index, best, from, node)
 }
 
-// The first node, in rising order, that is marked and no farther than the length: there is one.
+// The first node, in rising order, that is marked and no farther than the length.
 fn first_near(
     index: &[u16],
     best: &[u32],
@@ -33,15 +30,16 @@ fn first_near(
     marks: &[u8],
     length: u32,
     nodes: usize,
-) -> usize
-    requires { SomeNear index.now best.now from marks.now length nodes }
-    ensures { FirstNear index.now best.now from marks.now length nodes result }
+) -> Option<usize>
+    requires { AllMarkable index.now best.now marks.now nodes }
+    ensures { FirstOf index.now best.now from marks.now length nodes result }
 {
-    let mut left = nodes;
-    while is_far(index, best, from, marks, length, nodes - left) {
-        left -= 1;
+    for node in 0..nodes {
+        if !is_far(index, best, from, marks, length, node) {
+            return Some(node);
+        }
     }
-    nodes - left
+    None
 }
 
 // The nearest marked node within the tolerance, with its least length. A start that is marked is its own nearest.
@@ -65,6 +63,6 @@ pub fn nearest(
     }
     let met = explore(net, index, ask, marks, best, previous)?;
     let length = label_in(met.key);
-    let node = first_near(index, best, from, marks, length, nodes_of(net));
+    let node = first_near(index, best, from, marks, length, nodes_of(net))?;
     Some(Entry { node, length })
 }

@@ -1,6 +1,6 @@
 -- What the steps of a reach map promise to each other.
 -- Assumes nothing.
-use Rattle.std.specs.Prelude.{◌≡◌, cond, List, ℕ, ◌+◌, ◌*◌, ◌-◌, ◌≤◌, ◌<◌, leb, ltb, length, set}
+use Rattle.std.specs.Prelude.{◌≡◌, cond, List, ℕ, ◌+◌, ◌*◌, ◌-◌, ◌≤◌, ◌<◌, min, leb, length, set}
 use Rattle.lists.specs.Placed.{placed}
 use Rattle.routes.specs.Reach.{numbers}
 use Rattle.routes.specs.Steps.Labels.{unlabelled}
@@ -13,7 +13,7 @@ use Rattle.search_reach.specs.Steps.Arrivals.{length_to, LookedAt}
 
 -- A greatest length, at most the greatest that a label can be.
 abbrev pub clamped : ℕ → ℕ
-clamped greatest = cond (ltb greatest unlabelled) greatest (unlabelled - 1)
+clamped greatest = min greatest (unlabelled - 1)
 
 -- A question at one tolerance, from 1 up, without a limit.
 pub record AskedAt (net index : List ℕ) (ask : Ask) : Type 0 where

@@ -21,19 +21,20 @@ pub record Markable (index best marks : List ℕ) (node : ℕ) : Type 0 where
   pub looked : LookedAt index best node
   pub marked : node < length marks
 
--- Some node is near: marked, and no farther than the length.
-pub record SomeNear (index best : List ℕ) (from : ℕ) (marks : List ℕ) (feet nodes : ℕ) : Type 0 where
-  pub looked : (node : ℕ) → node < nodes → LookedAt index best node
-  pub fits : nodes ≤ length marks
-  pub some : ℕ
-  pub inside : some < nodes
-  pub near : is_far index best from marks feet some ≡ false
+-- Each of so many nodes may be.
+abbrev pub AllMarkable : List ℕ → List ℕ → List ℕ → ℕ → Type 0
+AllMarkable index best marks nodes = (node : ℕ) → node < nodes → Markable index best marks node
 
--- The first that is near.
+-- The first that is near: marked, and no farther than the length.
 pub record FirstNear (index best : List ℕ) (from : ℕ) (marks : List ℕ) (feet nodes node : ℕ) : Type 0 where
   pub inside : node < nodes
   pub near : is_far index best from marks feet node ≡ false
   pub lower : (b : ℕ) → b < node → is_far index best from marks feet b ≡ true
+
+-- None: every node is far.
+abbrev pub FirstOf : List ℕ → List ℕ → ℕ → List ℕ → ℕ → ℕ → Option ℕ → Type 0
+FirstOf index best from marks feet nodes None = (b : ℕ) → b < nodes → is_far index best from marks feet b ≡ true
+FirstOf index best from marks feet nodes (Some node) = FirstNear index best from marks feet nodes node
 
 -- The nearest marked node and its least length, which is one that a label can be.
 pub record NearFound (g : Streets) (nodes t a : ℕ) (marks : List ℕ) (e : Entry) : Type 0 where

@@ -1,40 +1,19 @@
 -- The loop takes one entry after the other, and has the least of the labels behind those that it passed. After eight it is the least of all.
-use mathlib.Core.Path.{◌≡◌, refl}
+use mathlib.Core.Path.{refl, ◌∙◌, ap}
+use Prim.Native.Nat.{◌*◌}
 use native.Mathlib.Omega.{arith}
-use Rattle.search_reach.specs.Steps.Arrivals.{least_behind}
+use Rattle.lists.proofs.Lists.{part_element}
+use Rattle.search_reach.specs.Steps.Arrivals.{label_behind, least_behind}
 use Rattle.search_reach.proofs.LabelsBehind.{least_more}
 use Rattle.search_reach.proofs.arrivals.least_arrival.Goals as goal
 
-pub overflow_mul-place : goal.overflow_mul-place
-overflow_mul-place c =
-    omega (arith, c.requires.room)
-
-pub loop-leg-init : goal.loop-leg-init
+pub loop-entry-init : goal.loop-entry-init
 unfolding least_behind
-loop-leg-init c =
-    (omega arith, refl)
+loop-entry-init c =
+    refl
 
-pub overflow_add-place : goal.overflow_add-place
-overflow_add-place c =
-    omega (arith, c.requires.room)
-
-pub offset_bounds-index-place : goal.offset_bounds-index-place
-offset_bounds-index-place c =
-    omega (arith, c.requires.room)
-
-pub bounds-index-place : goal.bounds-index-place
-bounds-index-place c =
-    omega (arith, c.requires.room)
-
-pub label_behind-requires : goal.label_behind-requires
-label_behind-requires c =
-    c.requires.each _ c.loop-leg-test.true
-
-pub loop-leg-preserved : goal.loop-leg-preserved
-loop-leg-preserved c =
-    (omega arith, least_more _ _ _ _ c.lesser-least.ensures c.label_behind.ensures c.loop-leg.invariant.1)
-
-pub returns : goal.returns
-returns c =
-    let e : c.loop-leg.leg ≡ 8 = omega arith in
-    rw e at c.loop-leg.invariant.1
+pub loop-entry-preserved : goal.loop-entry-preserved
+loop-entry-preserved c =
+    least_more _ _ _ _ c.min-least.ensures
+    (c.label_behind.ensures ∙ ap (label_behind c.args.best.now) (part_element c.args.index.now (c.args.node * 8) _ c.loop-entry.entry-index (omega arith)))
+    c.loop-entry.invariant

@@ -1,13 +1,9 @@
 -- The loop takes one entry after the other, and has the least of the labels behind those that it passed. After eight it is the least of all.
 use mathlib.Core.Path.{◌≡◌}
-use Prim.Native.Nat.{◌*◌, ◌-◌, ◌≤◌}
+use Prim.Native.Nat.{◌*◌}
 use Rattle.search_reach.specs.Steps.Arrivals.{least_behind}
 use Rattle.search_reach.proofs.arrivals.least_arrival.Given as goal
 
-abbrev pub invariant-loop-leg : goal.invariant-loop-leg
-invariant-loop-leg l =
-    (l.leg ≤ 8) × (l.least ≡ least_behind l.index l.best (l.node * 8) l.leg)
-
-abbrev pub decreases-loop-leg : goal.decreases-loop-leg
-decreases-loop-leg l =
-    8 - l.leg
+abbrev pub invariant-loop-entry : goal.invariant-loop-entry
+invariant-loop-entry l =
+    l.least ≡ least_behind l.index l.best (l.node * 8) l.entry-index

@@ -32,5 +32,5 @@ list_nodes-requires c =
 pub returns : goal.returns
 returns c =
     let A = c.requires.0 in
-    map_from_stop A c.requires.2 c.clamp-farthest.ensures c.key_of.ensures (stop_asked A.one c.explore.ensures)
+    map_from_stop A c.requires.2 c.clamp-farthest.ensures c.key_of.ensures (stop_asked _ (record c.args.ask { limit = c.key_of.result }) _ _ _ A.one _ c.explore.ensures).1
     (rw c.nodes_of.ensures at c.list_nodes.ensures)

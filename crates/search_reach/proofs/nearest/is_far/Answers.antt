@@ -1,12 +1,17 @@
 -- A node without a mark is far; of another the length decides.
 use native.Mathlib.Omega.{arith}
-use Rattle.search_reach.proofs.Nearness.{without_mark, by_length}
+use Rattle.std.proofs.lemmas.Grind.{common_steps}
+use Rattle.std.proofs.lemmas.Bool.Decides.{nat_tests}
+use Rattle.routes.specs.Reach.{is_marked}
+use Rattle.search_reach.specs.Steps.Nearest.{is_far}
 use Rattle.search_reach.proofs.nearest.is_far.Goals as goal
 
 pub returns-then-marks-node-eq0 : goal.returns-then-marks-node-eq0
+unfolding is_far is_marked
 returns-then-marks-node-eq0 c =
-    without_mark _ _ _ _ _ _ (omega arith)
+    rw c.if-marks-node-eq0.true
 
-pub returns : goal.returns
-returns c =
-    by_length _ _ _ _ _ _ (λ z. omega arith) c.length_to.ensures
+pub returns-else-marks-node-eq0 : goal.returns-else-marks-node-eq0
+unfolding is_far is_marked
+returns-else-marks-node-eq0 c =
+    grind (arith, common_steps)

@@ -1,15 +1,15 @@
 -- A marked start is its own nearest. Else the exploration stops at the nearest run that arrives at a marked node, and the first node that is no farther is
 -- the nearest; or it comes to its end, and no marked node has a route (proofs/ReachLaws.antt).
 use native.Mathlib.Omega.{arith}
-use Rattle.search_reach.proofs.ReachLaws.{marked, not_marked, stop_asked, start_near, stop_none_marked, stop_some_near, stop_near}
+use Rattle.search_reach.proofs.ReachLaws.{marked, not_marked, stop_met, start_near, stop_none_marked, all_markable, stop_some_near, stop_near}
 use Rattle.search_reach.proofs.nearest.nearest.Goals as goal
 
 pub returns-then-marks-from-ne0 : goal.returns-then-marks-from-ne0
 returns-then-marks-from-ne0 c =
     start_near c.requires.0 (marked _ _ c.if-marks-from-ne0.true)
 
-pub explore-met-requires : goal.explore-met-requires
-explore-met-requires c =
+pub explore-requires : goal.explore-requires
+explore-requires c =
     let A = c.requires.0 in (
       record {
         ready = A.ready;
@@ -21,23 +21,29 @@ explore-met-requires c =
       omega (arith, A.one),
     )
 
-pub returns-then-key-ge-TOP : goal.returns-then-key-ge-TOP
-returns-then-key-ge-TOP c =
+pub returns-in_err-met : goal.returns-in_err-met
+returns-in_err-met c =
     let A = c.requires.0 in
-    stop_none_marked A c.requires.2 (not_marked _ _ c.if-marks-from-ne0.false) (stop_asked A.one c.explore-met.ensures) c.if-key-ge-TOP.true
+    let s = c.in_err-met.ensures in
+    rw c.from_residual.ensures (stop_none_marked A c.requires.2 (not_marked _ _ c.if-marks-from-ne0.false) s.2 (omega (arith, s.1, A.whole)))
 
-pub first_near-node-requires : goal.first_near-node-requires
-first_near-node-requires c =
+pub first_near-requires : goal.first_near-requires
+first_near-requires c =
+    rw c.nodes_of.ensures (all_markable c.requires.0 c.requires.2 (omega (arith, c.requires.1.best_fits, c.explore.auto.best)))
+
+pub returns-in_err-node : goal.returns-in_err-node
+returns-in_err-node c =
     let A = c.requires.0 in
-    let o = c.explore-met in
-    rw (c.nodes_of.ensures, c.label_in-length.ensures)
-    (stop_some_near A c.requires.2 (not_marked _ _ c.if-marks-from-ne0.false) (stop_asked A.one o.ensures) c.if-key-ge-TOP.false
-    (omega (arith, c.requires.1.best_fits, o.auto.best)))
+    let M = c.in_ok-met.ensures in
+    absurd
+    (stop_some_near A c.requires.2 (not_marked _ _ c.if-marks-from-ne0.false) (stop_met A.one M) (omega (arith, M.below_limit, A.whole))
+    (rw (c.nodes_of.ensures, c.label_in-length.ensures) at c.in_err-node.ensures))
 
 pub returns : goal.returns
 returns c =
     let A = c.requires.0 in
+    let M = c.in_ok-met.ensures in
     let label = c.label_in-length.ensures in
     rw label
-    (stop_near A c.requires.2 (not_marked _ _ c.if-marks-from-ne0.false) (stop_asked A.one c.explore-met.ensures) c.if-key-ge-TOP.false
-    (rw (c.nodes_of.ensures, label) at c.first_near-node.ensures))
+    (stop_near A c.requires.2 (not_marked _ _ c.if-marks-from-ne0.false) (stop_met A.one M) (omega (arith, M.below_limit, A.whole))
+    (rw (c.nodes_of.ensures, label) at c.in_ok-node.ensures))
