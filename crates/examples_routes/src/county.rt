@@ -3,114 +3,39 @@
 use crate::{RUNS, runs, scratch};
 use frames::fields;
 use frames::ranges::head_ok;
-use network::corners::county_corners;
+use frames::sizes;
+use network::corners::{COUNTY_CORNERS, free_corners};
 use network::kept::{is_kept_in_county, is_network};
 use queue::TOP;
-use refusals::number_of;
-use routes::Found;
-use search_labels::{NONE, label_in};
+use refusals::Refusal;
+use routes::{Found, LeastRoute};
+use search_labels::label_in;
 use search_relaxing::Ask;
-use search_rounds::explore::{county_unknown, search_in_county};
-use splicereel::judge::{MovementAnswer, judge_movement, judge_movement_in_county};
-use splicereel::least_stress::{LeastAnswer, least_stress_in_county};
-use splicereel::route::{RouteAnswer, route_in_county};
+use search_rounds::explore::{COUNTY_KEYS, search_in, unknown};
+use splicereel::judge::{judge_movement, judge_movement_in_county};
+use splicereel::least_stress::least_stress_in_county;
+use splicereel::route::route_in_county;
 use std::io;
 use streets::runs::{nodes_of, segments_of};
-use text::ReadAnswer;
 use text::read::judge_in_county;
 
 pub fn differs(rt: &impl Print) -> io::Result<()> {
     println!(rt; "a county's memory says something else")
 }
 
-// An answer as one struct, which no other kind of answer gives: levels are below 5.
-fn told_refused(number: usize) -> Found {
-    Found {
-        count: number,
-        length: 0,
-        level: 5,
-    }
-}
-
-fn told_none() -> Found {
-    Found {
-        count: 0,
-        length: 0,
-        level: 6,
-    }
-}
-
-fn of_route(answer: RouteAnswer) -> Found {
-    match answer {
-        RouteAnswer::Refused(refusal) => told_refused(number_of(refusal) as usize),
-        RouteAnswer::Nothing => told_none(),
-        RouteAnswer::Found(found) => found,
-    }
-}
-
-fn of_least(answer: LeastAnswer) -> Found {
-    match answer {
-        LeastAnswer::Refused(refusal) => told_refused(number_of(refusal) as usize),
-        LeastAnswer::Nothing => told_none(),
-        LeastAnswer::Found {
-            found,
-            tolerance: _,
-        } => found,
-    }
-}
-
-fn tolerance_of(answer: LeastAnswer) -> usize {
-    match answer {
-        LeastAnswer::Refused(_) => 0,
-        LeastAnswer::Nothing => 0,
-        LeastAnswer::Found {
-            found: _,
-            tolerance,
-        } => tolerance,
-    }
-}
-
-// The same answer, and the same runs in the buffer.
-fn compare(
-    rt: &impl Print,
-    here: Found,
-    there: Found,
-    runs_here: &[u16],
-    runs_there: &[u16],
-) -> io::Result<()> {
-    if (here.count != there.count) | (here.length != there.length) | (here.level != there.level) {
-        differs(rt)?;
-    }
-    if runs_here.len() != runs_there.len() {
-        return differs(rt);
-    }
-    for (run_here, run_there) in runs_here.iter().zip(runs_there.iter()) {
-        if *run_here != *run_there {
-            differs(rt)?;
-        }
-    }
-    Ok(())
-}
-
-// The least length that a search in a county's memory finds, NONE where it finds none or the question is not in order.
-fn least_length(net: &[u8], from: usize, to: usize, tolerance: u8) -> u32 {
-    let mut index = county_corners();
+// The least length that a search in a county's memory finds; none where it finds none or the question is not in order.
+fn least_length(net: &[u8], from: usize, to: usize, tolerance: u8) -> Option<u32> {
+    let mut index = free_corners::<COUNTY_CORNERS>();
     if !is_network(net, &mut index) {
-        return NONE;
+        return None;
     }
     let nodes = nodes_of(net);
-    if from >= nodes {
-        return NONE;
-    }
-    if to >= nodes {
-        return NONE;
-    }
-    if from == to {
-        return NONE;
+    if from >= nodes || to >= nodes || from == to {
+        return None;
     }
     let runs = 2 * segments_of(net);
     if runs > RUNS {
-        return NONE;
+        return None;
     }
     let mut best = scratch();
     let mut previous = scratch();
@@ -121,20 +46,24 @@ fn least_length(net: &[u8], from: usize, to: usize, tolerance: u8) -> u32 {
         from,
         limit: TOP,
     };
-    let mut goals = county_unknown();
+    let mut goals = unknown::<{ sizes::COUNTY }>();
     goals[to] = 1;
-    label_in(search_in_county(net, &index, ask, &goals, &mut best, &mut previous))
+    let key = search_in::<COUNTY_KEYS, { sizes::COUNTY }>(
+        net,
+        &index,
+        ask,
+        &goals,
+        &mut best,
+        &mut previous,
+    )?;
+    Some(label_in(key))
 }
 
-// The length of a route that is found between two nodes; NONE for every other answer.
-fn length_of(from: usize, to: usize, answer: RouteAnswer) -> u32 {
-    if from == to {
-        return NONE;
-    }
+// The length of a route that is found between two nodes; none for every other answer.
+fn length_of(from: usize, to: usize, answer: Result<Option<Found>, Refusal>) -> Option<u32> {
     match answer {
-        RouteAnswer::Refused(_) => NONE,
-        RouteAnswer::Nothing => NONE,
-        RouteAnswer::Found(found) => found.length,
+        Ok(Some(found)) if from != to => Some(found.length),
+        _ => None,
     }
 }
 
@@ -145,7 +74,7 @@ pub fn same_route(
     to: usize,
     tolerance: usize,
     place: usize,
-    here: RouteAnswer,
+    here: Result<Option<Found>, Refusal>,
     runs_here: &[u16],
 ) -> io::Result<()> {
     let mut best = scratch();
@@ -161,17 +90,15 @@ pub fn same_route(
         &mut buffer,
         place,
     );
-    compare(rt, of_route(here), of_route(there), runs_here, &buffer)?;
-    if tolerance < 1 {
-        return Ok(());
-    }
-    if 4 < tolerance {
-        return Ok(());
-    }
-    if length_of(from, to, here) != least_length(net, from, to, tolerance as u8) {
+    if here != there || runs_here != buffer.as_slice() {
         differs(rt)?;
     }
-    Ok(())
+    match tolerance {
+        1..=4 if length_of(from, to, here) != least_length(net, from, to, tolerance as u8) => {
+            differs(rt)
+        }
+        _ => Ok(()),
+    }
 }
 
 pub fn same_least(
@@ -180,24 +107,17 @@ pub fn same_least(
     from: usize,
     to: usize,
     place: usize,
-    here: LeastAnswer,
+    here: Result<Option<LeastRoute>, Refusal>,
     runs_here: &[u16],
 ) -> io::Result<()> {
     let mut best = scratch();
     let mut previous = scratch();
     let mut buffer = runs();
     let there = least_stress_in_county(net, from, to, &mut best, &mut previous, &mut buffer, place);
-    if tolerance_of(here) != tolerance_of(there) {
-        differs(rt)?;
+    if here != there || runs_here != buffer.as_slice() {
+        return differs(rt);
     }
-    compare(rt, of_least(here), of_least(there), runs_here, &buffer)
-}
-
-fn level_of(answer: MovementAnswer) -> usize {
-    match answer {
-        MovementAnswer::Refused(refusal) => 10 + number_of(refusal) as usize,
-        MovementAnswer::Level(level) => level as usize,
-    }
+    Ok(())
 }
 
 // The test of the bytes, and the movements between the first runs.
@@ -208,21 +128,11 @@ pub fn same_levels(rt: &impl Print, net: &[u8]) -> io::Result<()> {
     for pair in 0..1600 {
         let here = judge_movement(net, pair / 40, pair % 40);
         let there = judge_movement_in_county(net, pair / 40, pair % 40);
-        if level_of(here) != level_of(there) {
+        if here != there {
             differs(rt)?;
         }
     }
     Ok(())
-}
-
-fn kept_of(answer: ReadAnswer) -> usize {
-    match answer {
-        ReadAnswer::Refused {
-            refusal: _,
-            line: _,
-        } => 0,
-        ReadAnswer::Kept(count) => count,
-    }
 }
 
 // The lines after the head of a text that was read, and the bytes that they keep.
@@ -235,7 +145,7 @@ pub fn same_reading(rt: &impl Print, text: &[u8], net: &[u8]) -> io::Result<()> 
     }
     let first = [net[0], net[1], net[2], net[3], net[4], net[5], net[6]];
     if head_ok(&first) {
-        if kept_of(judge_in_county(text, fields::HEAD_LINE, &first)) != net.len() {
+        if judge_in_county(text, fields::HEAD_LINE, &first) != Ok(net.len()) {
             differs(rt)?;
         }
     }

@@ -14,12 +14,9 @@ mod reaching;
 use crate::county::{same_least, same_levels, same_reading, same_route};
 use crate::reaching::same_reach;
 use frames::sizes;
-use refusals::{Refusal, number_of};
+use refusals::Refusal;
 use routes::Found;
-use splicereel::least_stress::LeastAnswer;
-use splicereel::route::RouteAnswer;
 use std::io;
-use text::ReadAnswer;
 
 // Two runs for each segment of a town.
 pub const RUNS: usize = 2 * sizes::TOWN;
@@ -64,7 +61,7 @@ fn refused(
     previous: &[u32],
     buffer: &[u16],
 ) -> io::Result<()> {
-    print!(rt; "refused {} ", number_of(refusal))?;
+    print!(rt; "refused {} ", u8::from(refusal))?;
     if scratch_same(best) & scratch_same(previous) & runs_same(buffer) {
         print!(rt; "untouched")
     } else {
@@ -103,9 +100,9 @@ fn show_route(
         place,
     );
     match answer {
-        RouteAnswer::Refused(refusal) => refused(rt, refusal, &best, &previous, &buffer)?,
-        RouteAnswer::Nothing => none(rt, &buffer)?,
-        RouteAnswer::Found(route) => found(rt, route)?,
+        Ok(Some(route)) => found(rt, route)?,
+        Ok(None) => none(rt, &buffer)?,
+        Err(refusal) => refused(rt, refusal, &best, &previous, &buffer)?,
     }
     println!(rt)?;
     same_route(rt, net, from, to, tolerance, place, answer, &buffer)?;
@@ -127,15 +124,12 @@ fn show_least(rt: &impl Print, net: &[u8], from: usize, to: usize, place: usize)
         place,
     );
     match answer {
-        LeastAnswer::Refused(refusal) => refused(rt, refusal, &best, &previous, &buffer)?,
-        LeastAnswer::Nothing => none(rt, &buffer)?,
-        LeastAnswer::Found {
-            found: route,
-            tolerance,
-        } => {
-            found(rt, route)?;
-            print!(rt; " {tolerance}")?;
+        Ok(Some(least)) => {
+            found(rt, least.route)?;
+            print!(rt; " {}", least.tolerance)?;
         }
+        Ok(None) => none(rt, &buffer)?,
+        Err(refusal) => refused(rt, refusal, &best, &previous, &buffer)?,
     }
     println!(rt)?;
     same_least(rt, net, from, to, place, answer, &buffer)
@@ -154,9 +148,9 @@ fn show_short(rt: &impl Print, net: &[u8]) -> io::Result<()> {
     let mut previous = scratch();
     let mut buffer = runs();
     match splicereel::route::route(net, 0, 0, 1, &mut best, &mut previous, &mut buffer, PLACE) {
-        RouteAnswer::Refused(refusal) => refused(rt, refusal, &best, &previous, &buffer)?,
-        RouteAnswer::Nothing => none(rt, &buffer)?,
-        RouteAnswer::Found(route) => found(rt, route)?,
+        Ok(Some(route)) => found(rt, route)?,
+        Ok(None) => none(rt, &buffer)?,
+        Err(refusal) => refused(rt, refusal, &best, &previous, &buffer)?,
     }
     println!(rt)
 }
@@ -189,11 +183,8 @@ fn main(rt: HostRuntime) -> io::Result<()> {
     let text = &buffer[..count];
     let mut net = [0u8; 65536];
     match splicereel::read::read(text, &mut net) {
-        ReadAnswer::Refused {
-            refusal: _,
-            line: _,
-        } => println!(rt; "not read"),
-        ReadAnswer::Kept(kept) => {
+        Err(_) => println!(rt; "not read"),
+        Ok(kept) => {
             let network = &net[..kept];
             show_all(&rt, network)?;
             same_reading(&rt, text, network)

@@ -1,61 +1,20 @@
 // The reach map and the nearest of marked nodes, asked in a town's memory and in a county's. A line is printed only where they do not say the same.
 use crate::county::differs;
 use crate::scratch;
-use refusals::number_of;
-use search_rounds::explore::town_unknown;
-use splicereel::nearest::{NearestAnswer, nearest, nearest_in_county};
-use splicereel::reach_map::{MapAnswer, reach_map, reach_map_in_county};
-use splicereel::route::RouteAnswer;
+use frames::sizes;
+use refusals::Refusal;
+use routes::Found;
+use search_rounds::explore::unknown;
+use splicereel::nearest::{nearest, nearest_in_county};
+use splicereel::reach_map::{reach_map, reach_map_in_county};
 use std::io;
 
-// Above every count and every node.
-const REFUSED: usize = 10000;
-
-const NOTHING: usize = 20000;
-
 // The greatest length that is asked: that of the route which was found, so that its last node is just within it.
-fn greatest_of(answer: RouteAnswer) -> usize {
+fn greatest_of(answer: Result<Option<Found>, Refusal>) -> usize {
     match answer {
-        RouteAnswer::Refused(_) => 1500,
-        RouteAnswer::Nothing => 1500,
-        RouteAnswer::Found(found) => found.length as usize,
+        Ok(Some(found)) => found.length as usize,
+        _ => 1500,
     }
-}
-
-fn count_of(answer: MapAnswer) -> usize {
-    match answer {
-        MapAnswer::Refused(refusal) => REFUSED + number_of(refusal) as usize,
-        MapAnswer::Listed(count) => count,
-    }
-}
-
-fn node_of(answer: NearestAnswer) -> usize {
-    match answer {
-        NearestAnswer::Refused(refusal) => REFUSED + number_of(refusal) as usize,
-        NearestAnswer::Nothing => NOTHING,
-        NearestAnswer::Found(entry) => entry.node,
-    }
-}
-
-fn feet_of(answer: NearestAnswer) -> u32 {
-    match answer {
-        NearestAnswer::Refused(_) => 0,
-        NearestAnswer::Nothing => 0,
-        NearestAnswer::Found(entry) => entry.length,
-    }
-}
-
-// The same numbers in the two lists, those after the entries too.
-fn compare_lists(rt: &impl Print, here: &[u32], there: &[u32]) -> io::Result<()> {
-    if here.len() != there.len() {
-        return differs(rt);
-    }
-    for (number_here, number_there) in here.iter().zip(there.iter()) {
-        if *number_here != *number_there {
-            differs(rt)?;
-        }
-    }
-    Ok(())
 }
 
 fn same_map(
@@ -87,23 +46,17 @@ fn same_map(
         &mut previous,
         &mut county_list,
     );
-    if count_of(here) != count_of(there) {
-        differs(rt)?;
+    // The numbers after the entries too.
+    if here != there || list != county_list {
+        return differs(rt);
     }
-    compare_lists(rt, &list, &county_list)
-}
-
-fn mark_of(node: usize, to: usize) -> u8 {
-    if node % 5 == to % 5 {
-        return 1;
-    }
-    0
+    Ok(())
 }
 
 // Marks one node, and every fifth node before and after it.
 fn mark(marks: &mut [u8], to: usize) {
     for (node, marked) in marks.iter_mut().enumerate() {
-        *marked = mark_of(node, to);
+        *marked = u8::from(node % 5 == to % 5);
     }
 }
 
@@ -116,12 +69,12 @@ fn same_nearest(
 ) -> io::Result<()> {
     let mut best = scratch();
     let mut previous = scratch();
-    let mut marks = town_unknown();
+    let mut marks = unknown::<{ sizes::TOWN }>();
     mark(&mut marks, to);
     let here = nearest(net, from, tolerance, &marks, &mut best, &mut previous);
     let there = nearest_in_county(net, from, tolerance, &marks, &mut best, &mut previous);
-    if (node_of(here) != node_of(there)) | (feet_of(here) != feet_of(there)) {
-        differs(rt)?;
+    if here != there {
+        return differs(rt);
     }
     Ok(())
 }
@@ -133,7 +86,7 @@ pub fn same_reach(
     from: usize,
     to: usize,
     tolerance: usize,
-    route: RouteAnswer,
+    route: Result<Option<Found>, Refusal>,
 ) -> io::Result<()> {
     same_map(rt, net, from, tolerance, greatest_of(route))?;
     same_nearest(rt, net, from, to, tolerance)
