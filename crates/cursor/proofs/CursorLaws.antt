@@ -18,7 +18,7 @@ use Rattle.cursor.proofs.FirstFaulty.{Behind, text_stops}
 -- which reading was told
 pub told_refused : (reading : Reading) {number k : ℕ} → refusal number k ≡ told_of reading → reading ≡ refused number k
 told_refused (refused x l) e = cc
-told_refused (kept bytes) e = let z : ◌≡◌ {A = ℕ} 0 1 = cc in absurd (omega (arith, z))
+told_refused (kept bytes) e = cc
 
 module _ (t : List ℕ) (k : ℕ) (w : Behind t (from_line k t) (k - 1)) where
   pub starts : line_start k t ≡ length (ended w.before)

@@ -16,7 +16,8 @@ use text::Refused;
 // One line: a segment's number, level and measure.
 fn put_level(net: &[u8], segment: usize, page: &mut Page)
     requires { SegmentOf net.now segment × (array_string_len page.old + 63 ≤ 65536) }
-    ensures { page.new.bytes ≡ page.old.bytes ++ level_line net.now segment }
+    ensures text { page.new.bytes ≡ page.old.bytes ++ level_line net.now segment }
+    ensures len { array_string_len page.new ≤ array_string_len page.old + 63 }
 {
     let grade = segment_grade(net, segment);
     put_field(segment, ' ', page);
@@ -47,18 +48,11 @@ fn put_refusal(refusal: Refusal, line: usize, page: &mut Page)
 pub fn levels(text: &[u8]) -> Page
     ensures { result.bytes ≡ levels_of text.now }
 {
-    let mut net = room();
+    let mut net = [0; edition::MOST_KEPT];
     let mut page = Page::new();
     match read(text, &mut net) {
         Err(Refused { refusal, line }) => put_refusal(refusal, line, &mut page),
         Ok(count) => put_levels(&net[..count], &mut page),
     }
     page
-}
-
-// Bytes in which every network fits.
-fn room() -> [u8; edition::MOST_KEPT]
-    ensures { length result ≡ levels_room }
-{
-    [0u8; edition::MOST_KEPT]
 }

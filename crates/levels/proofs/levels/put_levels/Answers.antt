@@ -1,32 +1,24 @@
--- `levels::levels::put_levels` meets its contract: the lines of the segments passed stand at the front, at most 63 bytes each.
-use Rattle.levels.proofs.Printing.{printed_none, printed_more, page_enough}
-use mathlib.Core.Path.{◌≡◌}
-use native.Mathlib.Omega.{arith}
+-- The page has the lines of the segments passed, at most 63 bytes each, and no network has more segments than a page has room for.
+use Rattle.std.proofs.Common.{◌≡◌, arith, length, sym, ap, ◌∙◌}
+use Rattle.levels.specs.Levels.{level_lines}
+use Rattle.levels.proofs.Printing.{no_lines, lines_more, page_enough}
 use Rattle.levels.proofs.levels.put_levels.Goals as goal
 
-pub loop-s-init : goal.loop-s-init
-loop-s-init c =
-    (printed_none _ _, omega arith)
+pub loop-segment-init : goal.loop-segment-init
+loop-segment-init c = (c.requires.1 ∙ sym (no_lines _ _), omega (arith, ap length c.requires.1))
 
-pub put_level-place-requires : goal.put_level-place-requires
-put_level-place-requires c =
-    let i = c.loop-s.invariant.0 in (
-      record { network = c.requires.0; inside = omega (arith, c.segments_of-segments.ensures) },
-      omega (arith, i.short, i.same, c.segments_of-segments.ensures, page_enough c.args.net.now c.requires.0),
+pub put_level-requires : goal.put_level-requires
+put_level-requires c =
+    let few = page_enough c.args.net.now c.requires.0 in (
+      record { network = c.requires.0; inside = omega (arith, c.segments_of-segment-end.ensures) },
+      omega (arith, c.loop-segment.invariant.1, c.segments_of-segment-end.ensures, few),
     )
 
-pub loop-s-preserved : goal.loop-s-preserved
-loop-s-preserved c =
-    let i = c.loop-s.invariant.0 in (
-      printed_more i c.put_level-place.ensures (omega (arith, i.short, c.segments_of-segments.ensures, page_enough c.args.net.now c.requires.0)),
-      omega arith,
-    )
+pub loop-segment-preserved : goal.loop-segment-preserved
+loop-segment-preserved c =
+    (lines_more _ _ c.loop-segment.invariant.0 c.put_level.ensures.text, omega (arith, c.put_level.ensures.len, c.loop-segment.invariant.1))
 
 pub returns : goal.returns
 returns c =
-    let all : c.loop-s.s ≡ c.segments_of-segments.result = omega arith in
-    record {
-      wrote = rw (all, c.segments_of-segments.ensures) at c.loop-s.invariant.0.wrote;
-      upper_bound =
-          omega (arith, c.loop-s.invariant.0.short, c.segments_of-segments.ensures, page_enough c.args.net.now c.requires.0);
-    }
+    let all : c.loop-segment.segment ≡ c.segments_of-segment-end.result = omega arith in
+    rw (all, c.segments_of-segment-end.ensures) at c.loop-segment.invariant.0

@@ -1,12 +1,9 @@
--- `levels::levels::put_levels` meets its contract: the lines of the segments passed stand at the front, at most 63 bytes each.
-use Rattle.levels.proofs.Printing.{Printed}
-use Prim.Native.Nat.{◌-◌, ◌≤◌}
+-- The page has the lines of the segments passed, at most 63 bytes each.
+use Rattle.std.proofs.Common.{◌≡◌, ◌*◌, ◌≤◌}
+use Rattle.arrayvec.specs.ArrayString.{array_string_len}
+use Rattle.levels.specs.Levels.{level_lines}
 use Rattle.levels.proofs.levels.put_levels.Given as goal
 
-abbrev pub invariant-loop-s : goal.invariant-loop-s
-invariant-loop-s l =
-    Printed l.net l.initial.out l.out l.s l.place × (l.s ≤ l.segments)
-
-abbrev pub decreases-loop-s : goal.decreases-loop-s
-decreases-loop-s l =
-    l.segments - l.s
+abbrev pub invariant-loop-segment : goal.invariant-loop-segment
+invariant-loop-segment l =
+    (l.page.bytes ≡ level_lines l.net 0 l.segment) × (array_string_len l.page ≤ 63 * l.segment)
