@@ -2,23 +2,15 @@
 -- later ones.
 -- Assumes nothing.
 use Prim.Native.Nat.{ℕ, zero, suc, ◌-◌, ◌≤◌}
-use mathlib.Core.Bool.{Bool, true, false, cond, ◌&&◌, not}
+use mathlib.Core.Bool.{Bool}
 use mathlib.Core.List.{List}
 use native.Mathlib.Omega.{arith}
-use lib.Dec.{eqb, leb, ltb}
-use Rattle.lists.specs.Lists.{is_empty}
-use Rattle.refusals.specs.declared.Refusal.{Refusal}
-use Rattle.refusals.specs.declared.Refusal.TheVariants.{NotDigits, WrongCheck, WrongFrame, WrongField, WrongCount, LegTaken, OutputTooShort}
-use Rattle.refusals.specs.Numbers.{number_of, unless}
-use Rattle.frames.specs.Edition.{frame_bytes}
-use Rattle.frames.specs.Frame.{check_ok, is_frame}
-use Rattle.frames.specs.Ranges.{head_ok, ends_ok, street_ok}
+use lib.Dec.{ltb}
 use Rattle.frames.specs.Faults.{framed, head_fault}
-use Rattle.network.specs.Legs.{taking, legs_free}
+use Rattle.network.specs.Legs.{taking}
 use Rattle.network.specs.Faults.{segment_fault}
-use Rattle.network.specs.Network.{kept_bytes}
 use Rattle.cursor.specs.Lines.{after_line}
-use Rattle.cursor.specs.LineFault.{line_bytes, or_else, first_fault, later_fault}
+use Rattle.cursor.specs.LineFault.{line_bytes, first_fault, later_fault}
 
 head_most : (h : List ℕ) → head_fault h ≤ 4
 unfolding head_fault framed

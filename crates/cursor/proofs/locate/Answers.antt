@@ -8,7 +8,7 @@ use Rattle.text.specs.declared.Refused.{Refused}
 use Rattle.text.specs.Read.{read_of}
 use Rattle.text.specs.Told.{told, told_of}
 use Rattle.text.proofs.ReadTheorems.{told_kept}
-use Rattle.cursor.specs.Lines.{first_line, from_line, line_start}
+use Rattle.cursor.specs.Lines.{first_line, line_start}
 use Rattle.cursor.specs.Cursor.{cursor_with, cursor_of}
 use Rattle.cursor.specs.Steps.Places.{WholeBefore, Begins}
 use Rattle.cursor.proofs.FirstFaulty.{text_stops}

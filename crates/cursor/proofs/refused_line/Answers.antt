@@ -18,6 +18,14 @@ module _ (t : List ℕ) (room : ℕ) {r : Cursor} (e : r ≡ cursor_of t room) w
       let n : r.start + r.length - r.start ≡ r.length = omega arith in
       ap (λ (x : ℕ). take x (drop r.start t)) n ∙ ap (λ (c : Cursor). take c.length (drop c.start t)) e
 
+pub overflow_add-end : goal.overflow_add-end
+overflow_add-end c =
+    omega (arith, inside _ _ c.locate-cursor.ensures)
+
+pub slice_bounds-result-end : goal.slice_bounds-result-end
+slice_bounds-result-end c =
+    omega (arith, inside _ _ c.locate-cursor.ensures)
+
 pub returns : goal.returns
 returns c =
     let e = c.locate-cursor.ensures in
