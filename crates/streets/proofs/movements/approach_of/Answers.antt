@@ -34,4 +34,4 @@ returns c =
     let crossing =
     crossing_is r at more is c.crossing_at.result c.crossing_level-crossing.result
     c.crossing_at.ensures c.crossing_level-crossing.ensures in
-    record { onto_exit = turn; onto_other = c.greater.ensures ∙ ap₂ max turn crossing }
+    record { onto_exit = turn; onto_other = c.max.ensures ∙ ap₂ max turn crossing }
