@@ -15,7 +15,7 @@ use native.Mathlib.Omega.{arith}
 use lib.ListN.{length, set, length-set}
 use lib.Seq.{get_or-set_same, get_or-set_other}
 use Rattle.routes.specs.Steps.Labels.{unlabelled}
-use Rattle.lists.proofs.Facts.{bool_cases, eq_or_ne, last_or_below}
+use Rattle.lists.proofs.Facts.{bool_cases, eq_or_ne, last_or_below, false_or}
 use Rattle.lists.specs.Lists.{at}
 use Rattle.search_labels.specs.Steps.Relax.{Visit, barred, Offer, Relaxed, kept, labelled, free, leads}
 
@@ -211,7 +211,7 @@ relaxed_both {f} {g} {feet} {n} {u} {base} {best} {previous} {best₁} {previous
           let b = S.kept r l (omega (arith, a.0)) in
           (b.0 ∙ a.0, b.1 ∙ a.1);
       barred = λ r l e.
-          let o = or-false (f u r) (g u r) e in
+          let o = false_or (f u r) (g u r) e in
           let a = R.barred r l o.0 in
           let b = S.barred r l o.1 in
           (b.0 ∙ a.0, b.1 ∙ a.1);
@@ -224,7 +224,3 @@ relaxed_both {f} {g} {feet} {n} {u} {base} {best} {previous} {best₁} {previous
           (λ (s : f u r ≡ false).
           S.labelled r l (omega (arith, (R.barred r l s).0)) (ap (λ (x : Bool). x || g u r) (sym s) ∙ e));
     }
-  where
-    or-false : (a b : Bool) → a || b ≡ false → (a ≡ false) × (b ≡ false)
-    or-false true b e = absurd (true≢false e)
-    or-false false b e = (refl, e)

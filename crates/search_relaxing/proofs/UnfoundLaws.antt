@@ -6,7 +6,8 @@
 -- settled: no goal is spent.
 -- Assumes nothing.
 use mathlib.Core.Path.{◌≡◌, refl, sym, ◌∙◌, ap}
-use mathlib.Core.Bool.{Bool, true, false, true≢false, ◌&&◌, ◌||◌}
+use Rattle.std.proofs.Math.Bool.{or-false}
+use mathlib.Core.Bool.{Bool, true, false, true≢false, ◌&&◌}
 use mathlib.Core.List.{List}
 use mathlib.Core.Logic.{◌⊎◌, inl, inr, ⊎_elim}
 use Prim.Native.Nat.{ℕ, ◌+◌, ◌*◌, ◌-◌, ◌%◌, ◌≤◌, ◌<◌}
@@ -92,10 +93,6 @@ spread_edges {net} {t} {u = u} R S N =
       settling = S;
       noted = N;
     }
-  where
-    or-false : (b : Bool) → b || false ≡ b
-    or-false true = refl
-    or-false false = refl
 
 -- what is relaxed is every edge, and beside them only a way back
 module _ {net : List ℕ} {t n u base : ℕ} {best previous unfound best' previous' tree' unfound' : List ℕ}

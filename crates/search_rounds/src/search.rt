@@ -15,6 +15,7 @@ use search_relaxing::relax::NOTHING;
 use streets::runs::finish_of;
 
 // The run arrives at a goal: at a node whose byte is not 0.
+#[tactic(auto, unfolding(search_relaxing::specs::Steps::Counted::goal_at, routes::specs::Reach::is_marked))]
 fn is_goal(net: &[u8], goals: &[u8], run: usize) -> bool
     requires { RunOf net.now run × (nodes_of net.now ≤ length goals.now) }
     ensures { result ≡ goal_at net.now goals.now run }

@@ -7,7 +7,7 @@ use Rattle.search_rounds.proofs.search.search.Given as goal
 
 abbrev pub invariant-loop-key : goal.invariant-loop-key
 invariant-loop-key l =
-    Between l.net l.ask l.goals l.initial.best l.initial.previous l.initial.tree l.initial.unfound l.best l.previous l.tree l.unfound l.key
+    Between l.net l.ask l.goals l.best l.previous l.tree l.unfound l.key
 
 abbrev pub decreases-loop-key : goal.decreases-loop-key
 decreases-loop-key l =
