@@ -1,6 +1,5 @@
 -- The page has the lines of the segments passed, at most 63 bytes each, and no network has more segments than a page has room for.
 use Rattle.std.proofs.Common.{◌≡◌, arith, length, sym, ap, ◌∙◌}
-use Rattle.levels.specs.Levels.{level_lines}
 use Rattle.levels.proofs.Printing.{no_lines, lines_more, page_enough}
 use Rattle.levels.proofs.levels.put_levels.Goals as goal
 
