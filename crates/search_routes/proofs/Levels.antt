@@ -1,12 +1,12 @@
 -- The level of a chain is read backwards too. At each run q the runs after it are known, and `level` is the level from q on; the run before q adds its
 -- own level and the movement's. At the first run of the chain the level from there on is the whole route's.
 -- Assumes nothing.
-use mathlib.Core.Path.{◌≡◌, refl, ◌∙◌, ap}
-use mathlib.Core.List.{List, [], ◌∷◌}
-use Prim.Native.Nat.{ℕ, zero, suc, ◌+◌, ◌≤◌, ◌<◌, max}
+use mathlib.Core.Path.{◌≡◌, refl}
+use mathlib.Core.List.{List, []}
+use Prim.Native.Nat.{ℕ, zero, suc, ◌+◌}
 use native.Mathlib.Omega.{arith}
 use Rattle.routes.specs.Streets.{Streets}
-use Rattle.routes.specs.Routes.{level_from, level_of}
+use Rattle.routes.specs.Routes.{level_from}
 use Rattle.routes.specs.Steps.Labels.{Depth, chain}
 use Rattle.search_routes.specs.Steps.Trace.{Traced}
 use Rattle.search_routes.proofs.Tracing.{Runs, traced_runs}

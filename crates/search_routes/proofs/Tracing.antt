@@ -6,16 +6,14 @@ use mathlib.Core.Path.{◌≡◌, refl, ◌∙◌, ap}
 use mathlib.Core.List.{List, [], ◌∷◌, ◌++◌}
 use mathlib.Core.Logic.{◌⊎◌, ⊎_elim}
 use Prim.Native.Nat.{ℕ, zero, suc, ◌+◌, ◌-◌, ◌≤◌, ◌<◌}
-use native.Mathlib.Nat.{not-suc-le-zero, add-zero}
-use native.Mathlib.Numerals.{one-add}
 use native.Mathlib.Omega.{arith}
-use lib.ListN.{length, take, drop, set, length-set, length-drop}
-use lib.Seq.{take-length, drop-cons, drop-drop, drop-set-lt, get_or-set_same, lt-length-set}
+use lib.ListN.{length, take, drop, length-drop}
+use lib.Seq.{take-length, drop-drop}
 use Rattle.routes.specs.Steps.Labels.{unlabelled, Depth, chain}
 use Rattle.routes.proofs.Chains.{chain_count}
 use Rattle.lists.specs.Placed.{placed}
 use Rattle.lists.proofs.PlacedLaws.{tail_back}
-use Rattle.search_routes.specs.Steps.Trace.{Traced, Ends}
+use Rattle.search_routes.specs.Steps.Trace.{Traced}
 
 -- k runs of the chain from r are counted, and p is the number before them
 pub record Counted (n : ℕ) (previous : ℕ → ℕ) (r p k : ℕ) : Type 0 where
