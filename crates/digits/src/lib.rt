@@ -45,27 +45,32 @@ fn byte_of(high: u8, low: u8) -> u8
     (pair * 4097 / 256 % 256) as u8
 }
 
-// The line at a place of a text, without storing its bytes: a line may be of any length.
+// The line at a place of a text, without storing its bytes: a line may be of any length. After the last whole pair at most one byte is left.
 pub fn scan_line(text: &[u8], at: usize) -> Option<Scanned>
     requires { at ≤ length text.now }
     ensures { result ≡ scanned 0 0 (line_of (drop at text.now)) }
 {
     let mut count: usize = 0;
     let mut sum: usize = 0;
-    for pair in text[at..].chunks(2) {
+    let pairs = text[at..].chunks_exact(2);
+    let last = pairs.remainder();
+    for pair in pairs {
         if pair[0] == 10 {
             return Some(Scanned { count, sum });
         }
-        let [x, y] = *pair else {
-            return None;
-        };
-        if !(is_digit(x) & is_digit(y)) {
+        if !(is_digit(pair[0]) & is_digit(pair[1])) {
             return None;
         }
-        sum = (sum + byte_of(digit_of(x), digit_of(y)) as usize) % 256;
+        sum = (sum + byte_of(digit_of(pair[0]), digit_of(pair[1])) as usize) % 256;
         count += 1;
     }
-    None
+    let [end] = *last else {
+        return None;
+    };
+    if end != 10 {
+        return None;
+    }
+    Some(Scanned { count, sum })
 }
 
 // Fills values with those of the digits at a place of a text, and tells whether all are digits. It does not stop at one that is none, so that the
