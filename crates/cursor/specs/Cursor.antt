@@ -23,7 +23,7 @@ cursor_at text (kept bytes) = cursor_with (number_of NoRefusedLine) (length text
 unfoldable pub cursor_of : List ℕ → ℕ → Cursor
 cursor_of text room = cursor_at text (read_of text room)
 
--- What the call promises of the part that it gives back and of the number that it writes: the part is of the caller's own text, and begins and ends where
+-- What the call promises of the part and of the number that it gives back: the part is of the caller's own text, and begins and ends where
 -- the definition says, also where it is empty.
 pub record Points (text : Bor (List ℕ)) (room : ℕ) (part : Bor (List ℕ)) (number : ℕ) : Type 0 where
   pub number_is : number ≡ (cursor_of text.now room).number

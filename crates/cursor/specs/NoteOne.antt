@@ -11,7 +11,7 @@ use Rattle.cursor.specs.Lines.{from_line, IsLine}
 use Rattle.cursor.specs.Cursor.{Points, cursor_of}
 use Rattle.cursor.specs.LineFault.{FirstFaulty}
 
--- A call: the text that was lent, the part that came back, and the number that was written. `returned` is the contract of the call.
+-- A call: the text that was lent, and the part and the number that came back. `returned` is the contract of the call.
 pub record LineCall (text : List ℕ) (room : ℕ) : Type 0 where
   pub lent : Bor (List ℕ)
   pub part : Bor (List ℕ)
