@@ -28,9 +28,10 @@ pub fn feet_of(f: &[u8], e: u8) -> usize
     requires { frame_bytes e ≤ length f.now }
     ensures { (result ≡ feet e f.now) × (result < 4294967296) }
 {
-    let end = fields::FEET + fields::FEET_BYTES + extra_of(e);
-    let mut feet: usize = 0;
-    for byte in &f[fields::FEET..end] {
+    let start = fields::FEET + fields::FEET_BYTES;
+    let end = start + extra_of(e);
+    let mut feet = word_at(f, fields::FEET);
+    for byte in &f[start..end] {
         feet = feet * 256 + usize::from(*byte);
     }
     feet
