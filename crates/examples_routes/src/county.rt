@@ -1,9 +1,8 @@
 // The same questions asked in a county's memory. Every network of edition 01 is a town, so no call chooses it; what is said there must be what is said
 // in a town's. A line is printed only where it is not.
 use crate::{RUNS, runs, scratch};
-use frames::fields;
 use frames::ranges::head_ok;
-use frames::sizes;
+use frames::{fields, sizes};
 use network::corners::{COUNTY_CORNERS, free_corners};
 use network::kept::{is_kept_in_county, is_network};
 use queue::TOP;

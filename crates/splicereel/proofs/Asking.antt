@@ -39,21 +39,21 @@ module _ {runs : ℕ} {best previous buffer : List ℕ} {place : ℕ} where
 module _ {net index : List ℕ} {counts : Counts} (N : CountsOf net index counts) {from to : ℕ} (f : ltb from counts.nodes ≡ true)
     (t : ltb to counts.nodes ≡ true)
   where
-  pub in_order : {least most : ℕ} → 1 ≤ least → least ≤ most
-      → Question net index (record { runs = counts.runs; least = least; tolerance = most; from = from; limit = top }) to
-  in_order low order =
-      record {
-        ready =
-            record {
-              counted = record { network = N.network; count = N.runs };
-              indexed = N.corners;
-              from_node = rw N.nodes at (ltb-true from counts.nodes f);
-            };
-        to_node = rw N.nodes at (ltb-true to counts.nodes t);
-        low = low;
-        order = order;
-        whole = refl;
-      }
+    pub in_order : {least most : ℕ} → 1 ≤ least → least ≤ most
+        → Question net index (record { runs = counts.runs; least = least; tolerance = most; from = from; limit = top }) to
+    in_order low order =
+        record {
+          ready =
+              record {
+                counted = record { network = N.network; count = N.runs };
+                indexed = N.corners;
+                from_node = rw N.nodes at (ltb-true from counts.nodes f);
+              };
+          to_node = rw N.nodes at (ltb-true to counts.nodes t);
+          low = low;
+          order = order;
+          whole = refl;
+        }
 
 pub low_enough : (t : ℕ) {u : ℕ} → within 1 4 t ≡ true → u ≡ t → 1 ≤ u
 low_enough t w e =
