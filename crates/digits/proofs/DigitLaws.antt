@@ -11,6 +11,7 @@ use lib.ListN.{length, get_or, drop, length-drop}
 use lib.Seq.{drop-drop}
 use borrow.Author.Tests.{eq-eqb, ne_eqb, eqb-true}
 use Rattle.lists.proofs.Facts.{and_true, true_and}
+use Rattle.lists.proofs.Lists.{drop_two}
 use Rattle.frames.specs.Frame.{total}
 use Rattle.frames.specs.Ranges.{within}
 use Rattle.frames.proofs.RangeLaws.{within_high}
@@ -47,7 +48,12 @@ line_bad : (x y : ℕ) (t : List ℕ) → eqb x 10 ≡ false → (is_digit x && 
 unfolding line_of
 line_bad x y t e d = rw (e, d)
 
--- ---- the same where two bytes, or the last one, come off the front of what is left of a text
+-- ---- the same at a place of a text
+pub pair_at_lem : (t : List ℕ) (i : ℕ) → i + 1 < length t → (get_or t i 0 ≡ 10 → ⊥) → (is_digit (get_or t i 0) && is_digit (get_or t (i + 1) 0)) ≡ true
+    → line_of (drop i t) ≡ push (16 * digit (get_or t i 0) + digit (get_or t (i + 1) 0)) (line_of (drop (i + 2) t))
+pair_at_lem t i h e d = rw (drop_two t i h) (line_pair _ _ _ (ne_eqb _ _ e) d)
+
+-- ---- and where two bytes, or the last one, come off the front of what is left of a text
 pub end_front : (x l : List ℕ) → 0 < length x → get_or x 0 0 ≡ 10 → (r : List ℕ) × (line_of (x ++ l) ≡ line [] r)
 end_front [] l h e = absurd (omega arith)
 end_front (a ∷ x) l h e = (x ++ l, line_end_lem a (x ++ l) (eq-eqb a 10 e))
