@@ -10,7 +10,7 @@ use refusals::Refusal;
 use routes::{Found, LeastRoute};
 use search_labels::label_in;
 use search_relaxing::Ask;
-use search_rounds::explore::{COUNTY_KEYS, search_in, unknown};
+use search_rounds::explore::{search_in_county, unknown};
 use splicereel::judge::{judge_movement, judge_movement_in_county};
 use splicereel::least_stress::least_stress_in_county;
 use splicereel::route::route_in_county;
@@ -47,14 +47,7 @@ fn least_length(net: &[u8], from: usize, to: usize, tolerance: u8) -> Option<u32
     };
     let mut goals = unknown::<{ sizes::COUNTY }>();
     goals[to] = 1;
-    let key = search_in::<COUNTY_KEYS, { sizes::COUNTY }>(
-        net,
-        &index,
-        ask,
-        &goals,
-        &mut best,
-        &mut previous,
-    )?;
+    let key = search_in_county(net, &index, ask, &goals, &mut best, &mut previous)?;
     Some(label_in(key))
 }
 

@@ -11,9 +11,9 @@ use search_relaxing::Ask;
 use streets::runs::{nodes_of, segments_of};
 
 // Two elements of the queue for each of two runs of a segment.
-pub const TOWN_KEYS: usize = 4 * sizes::TOWN;
+const TOWN_KEYS: usize = 4 * sizes::TOWN;
 
-pub const COUNTY_KEYS: usize = 4 * sizes::COUNTY;
+const COUNTY_KEYS: usize = 4 * sizes::COUNTY;
 
 // An empty queue, of two elements for each run.
 fn no_keys<const KEYS: usize>() -> [u64; KEYS]
@@ -39,7 +39,7 @@ pub struct Met {
 
 // A search in memory of its own, for so many nodes and half as many runs as keys. It is never inlined: a town takes no stack for a county.
 #[inline(never)]
-pub fn search_in<const KEYS: usize, const NODES: usize>(
+fn search_in<const KEYS: usize, const NODES: usize>(
     net: &[u8],
     index: &[u16],
     ask: Ask,
@@ -64,7 +64,22 @@ pub fn search_in<const KEYS: usize, const NODES: usize>(
     )
 }
 
-// A search in a town's memory where that has room for the network, else in a county's.
+// The same in a county's memory, which has room for every network.
+pub fn search_in_county(
+    net: &[u8],
+    index: &[u16],
+    ask: Ask,
+    goals: &[u8],
+    best: &mut [u32],
+    previous: &mut [u32],
+) -> Option<u64>
+    requires { Sought net.now index.now ask goals.now × Room ask.runs best.old previous.old }
+    ensures { Stopped net.now ask ask.tolerance goals.now best.new previous.new result }
+{
+    search_in::<COUNTY_KEYS, { sizes::COUNTY }>(net, index, ask, goals, best, previous)
+}
+
+// The same in a town's memory where that has room for the network, else in a county's.
 fn search_at(
     net: &[u8],
     index: &[u16],
@@ -79,7 +94,7 @@ fn search_at(
     if is_town(nodes_of(net), segments_of(net)) {
         return search_in::<TOWN_KEYS, { sizes::TOWN }>(net, index, ask, goals, best, previous);
     }
-    search_in::<COUNTY_KEYS, { sizes::COUNTY }>(net, index, ask, goals, best, previous)
+    search_in_county(net, index, ask, goals, best, previous)
 }
 
 // Searches at the tolerances from `least` to the one that is asked, until one of them meets a goal.

@@ -1,8 +1,6 @@
--- A town's memory is enough for what `is_town` takes, and a county's for every network.
+-- A town's memory is enough for what `is_town` takes.
 use mathlib.Core.Path.{sym, ◌∙◌}
 use Rattle.frames.proofs.TownLaws.{town_nodes, town_segments}
-use Rattle.network.proofs.NetworkLaws.{passed}
-use Rattle.search_relaxing.proofs.CountedLaws.{few_runs}
 use native.Mathlib.Omega.{arith}
 use Rattle.search_rounds.proofs.explore.search_at.Goals as goal
 
@@ -16,20 +14,6 @@ search_in-requires c =
       record {
         runs_fit = omega (arith, c.requires.0.ready.counted.count, c.segments_of.ensures, segments);
         nodes_fit = omega (arith, c.nodes_of.ensures, nodes);
-        some_keys = omega arith;
-        few_keys = omega arith;
-        few_numbers = omega arith;
-      },
-    )
-
-pub search_in-requires-2 : goal.search_in-requires-2
-search_in-requires-2 c =
-    let T = c.requires.0.ready.counted in (
-      c.requires.0,
-      c.requires.1,
-      record {
-        runs_fit = omega (arith, few_runs T);
-        nodes_fit = (passed c.args.net.now T.network).limits.few_nodes;
         some_keys = omega arith;
         few_keys = omega arith;
         few_numbers = omega arith;
