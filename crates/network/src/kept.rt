@@ -89,9 +89,7 @@ pub fn is_county(net: &[u8]) -> bool
     !is_town(head.nodes, head.segments)
 }
 
-// Whether the bytes are a network that Read could keep, tested in memory of its own for so many corners. It is never inlined, so that a town takes no
-// stack for a county.
-#[inline(never)]
+// Whether the bytes are a network that Read could keep, tested in memory of its own for so many corners.
 fn is_kept_in<const CORNERS: usize>(net: &[u8]) -> bool
     requires { (CORNERS ≤ 8 * county_size) × FewNodes (CORNERS / 8) net.now }
     ensures { result ≡ is_network net.now }
@@ -100,7 +98,8 @@ fn is_kept_in<const CORNERS: usize>(net: &[u8]) -> bool
     is_network(net, &mut index)
 }
 
-// The same in a county's memory.
+// The same in a county's memory. It is never inlined, so that a town takes no stack for a county.
+#[inline(never)]
 pub fn is_kept_in_county(net: &[u8]) -> bool
     ensures { result ≡ is_network net.now }
 {

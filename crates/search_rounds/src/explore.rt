@@ -37,8 +37,7 @@ pub struct Met {
     pub tolerance: u8,
 }
 
-// A search in memory of its own, for so many nodes and half as many runs as keys. It is never inlined: a town takes no stack for a county.
-#[inline(never)]
+// A search in memory of its own, for so many nodes and half as many runs as keys.
 fn search_in<const KEYS: usize, const NODES: usize>(
     net: &[u8],
     index: &[u16],
@@ -64,7 +63,8 @@ fn search_in<const KEYS: usize, const NODES: usize>(
     )
 }
 
-// The same in a county's memory, which has room for every network.
+// The same in a county's memory, which has room for every network. It is never inlined: a town takes no stack for a county.
+#[inline(never)]
 pub fn search_in_county(
     net: &[u8],
     index: &[u16],

@@ -33,7 +33,8 @@ pub fn least_stress(
     least_stress_in::<TOWN_CORNERS, { sizes::TOWN }>(net, from, to, best, previous, buffer, place)
 }
 
-// The same in a county's memory.
+// The same in a county's memory. It is never inlined: a town takes no stack for a county.
+#[inline(never)]
 pub fn least_stress_in_county(
     net: &[u8],
     from: usize,
@@ -52,8 +53,7 @@ pub fn least_stress_in_county(
     )
 }
 
-// The same in memory for so many corners and nodes. It is never inlined: a town takes no stack for a county.
-#[inline(never)]
+// The same in memory for so many corners and nodes.
 #[tactic(auto, unfolding(crate::specs::Finding::least_stress_refusal, crate::specs::Finding::nodes_refusal))]
 fn least_stress_in<const CORNERS: usize, const NODES: usize>(
     net: &[u8],

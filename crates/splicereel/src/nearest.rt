@@ -28,7 +28,8 @@ pub fn nearest(
     nearest_in::<TOWN_CORNERS>(net, from, tolerance, marks, best, previous)
 }
 
-// The same in a county's memory.
+// The same in a county's memory. It is never inlined: a town takes no stack for a county.
+#[inline(never)]
 pub fn nearest_in_county(
     net: &[u8],
     from: usize,
@@ -43,8 +44,7 @@ pub fn nearest_in_county(
     nearest_in::<COUNTY_CORNERS>(net, from, tolerance, marks, best, previous)
 }
 
-// The same in memory for so many corners. It is never inlined: a town takes no stack for a county.
-#[inline(never)]
+// The same in memory for so many corners.
 #[tactic(auto, unfolding(crate::specs::Finding::reach_refusal))]
 fn nearest_in<const CORNERS: usize>(
     net: &[u8],

@@ -37,7 +37,8 @@ pub fn route(
     )
 }
 
-// The same in a county's memory.
+// The same in a county's memory. It is never inlined: a town takes no stack for a county.
+#[inline(never)]
 pub fn route_in_county(
     net: &[u8],
     from: usize,
@@ -57,8 +58,7 @@ pub fn route_in_county(
     )
 }
 
-// The same in memory for so many corners and nodes. It is never inlined: a town takes no stack for a county.
-#[inline(never)]
+// The same in memory for so many corners and nodes.
 #[tactic(auto, unfolding(crate::specs::Finding::route_refusal, crate::specs::Finding::nodes_refusal))]
 fn route_in<const CORNERS: usize, const NODES: usize>(
     net: &[u8],

@@ -162,8 +162,7 @@ fn judge_lines(
     Ok(kept_bytes(head))
 }
 
-// The same in memory of its own for so many corners. It is never inlined, so that a town takes no stack for a county.
-#[inline(never)]
+// The same in memory of its own for so many corners.
 fn judge_in<const CORNERS: usize>(
     text: &[u8],
     start: usize,
@@ -176,7 +175,8 @@ fn judge_in<const CORNERS: usize>(
     judge_lines(text, start, first, &mut index)
 }
 
-// The same in a county's memory.
+// The same in a county's memory. It is never inlined, so that a town takes no stack for a county.
+#[inline(never)]
 pub fn judge_in_county(
     text: &[u8],
     start: usize,
