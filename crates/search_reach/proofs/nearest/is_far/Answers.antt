@@ -1,7 +1,6 @@
 -- A node without a mark is far; of another the length decides.
 use native.Mathlib.Omega.{arith}
 use Rattle.std.proofs.lemmas.Grind.{common_steps}
-use Rattle.std.proofs.lemmas.Bool.Decides.{nat_tests}
 use Rattle.routes.specs.Reach.{is_marked}
 use Rattle.search_reach.specs.Steps.Nearest.{is_far}
 use Rattle.search_reach.proofs.nearest.is_far.Goals as goal
