@@ -53,6 +53,27 @@ module _ (net : List ℕ) {goals : List ℕ} (U : Unmarked net goals) {to : ℕ}
       (λ (e : finish net r ≡ to → ⊥). other_node (finish net r) l e ∙ sym (ne_eqb (finish net r) to e))
       (eq_or_ne (finish net r) to)
 
+  -- the search for the goal has stopped as a search for the node, over all runs of the network
+  pub stop_at_node : (t a : ℕ) {n limit m : ℕ} {best previous : List ℕ} → Counted net n → limit ≡ top
+      → Stop (run_graph net n t a) (goal_at net (set goals to 1)) best previous limit m
+      → Stop (graph_of (bicycle net) t a) (arrives_at (bicycle net) to) best previous top m
+  stop_at_node t a {n} {limit} {m} {best} {previous} T whole S =
+      subst
+      (λ (size : ℕ). Stop (run_graph net size t a) (arrives_at (bicycle net) to) best previous top m)
+      T.count
+      (record {
+        follows = S.follows;
+        whence = S.whence;
+        bounded = S.bounded;
+        none = λ r l h e. S.none r l h (met r l ∙ e);
+        whose = S.whose;
+        goal_met = λ k. sym (met (run_in m) (S.whose k).inside) ∙ S.goal_met (omega (arith, whole));
+        sound = λ k. S.sound (omega (arith, whole));
+      })
+    where
+      met : (r : ℕ) → r < n → goal_at net (set goals to 1) r ≡ arrives_at (bicycle net) to r
+      met r l = one_goal r (finish_below (run_of T l))
+
 module _ {net index : List ℕ} {ask : Ask} {to : ℕ} (Q : Question net index ask to) {goals : List ℕ} (U : Unmarked net goals) where
   pub sought : (ask.from ≡ to → ⊥) → Sought net index ask (set goals to 1)
   sought apart =
@@ -63,31 +84,9 @@ module _ {net index : List ℕ} {ask : Ask} {to : ℕ} (Q : Question net index a
         limited = omega (arith, Q.whole);
       }
 
-  -- the search for the goal has stopped as a search for the node, over all runs of the network
-  stop_at_node : (t : ℕ) {m : ℕ} {best previous : List ℕ} → StopsAt net ask t (set goals to 1) best previous m
+  node_stop : (t : ℕ) {m : ℕ} {best previous : List ℕ} → StopsAt net ask t (set goals to 1) best previous m
       → Stop (graph_of (bicycle net) t ask.from) (arrives_at (bicycle net) to) best previous top m
-  stop_at_node t {m} {best} {previous} E =
-      subst
-      (λ (size : ℕ). Stop (run_graph net size t ask.from) (arrives_at (bicycle net) to) best previous top m)
-      T.count
-      (record {
-        follows = S.follows;
-        whence = S.whence;
-        bounded = S.bounded;
-        none = λ r l h e. S.none r l h (met r l ∙ e);
-        whose = S.whose;
-        goal_met = λ k. sym (met (run_in m) (S.whose k).inside) ∙ S.goal_met (omega (arith, Q.whole));
-        sound = λ k. S.sound (omega (arith, Q.whole));
-      })
-    where
-      T : Counted net ask.runs
-      T = Q.ready.counted
-
-      S : Stop (run_graph net ask.runs t ask.from) (goal_at net (set goals to 1)) best previous ask.limit m
-      S = E.stop
-
-      met : (r : ℕ) → r < ask.runs → goal_at net (set goals to 1) r ≡ arrives_at (bicycle net) to r
-      met r l = one_goal net U Q.to_node r (finish_below (run_of T l))
+  node_stop t E = stop_at_node net U Q.to_node t ask.from Q.ready.counted Q.whole E.stop
 
   all_fair : Fair (bicycle net).runs (bicycle net).feet county_feet
   all_fair = fair (counted Q.ready.counted.network refl)
@@ -95,7 +94,7 @@ module _ {net index : List ℕ} {ask : Ask} {to : ℕ} (Q : Question net index a
   -- a search that met nothing
   pub none_there : (t : ℕ) {m : ℕ} {best previous : List ℕ} → (ask.from ≡ to → ⊥) → ask.limit ≤ m
       → StopsAt net ask t (set goals to 1) best previous m → NoRoute (bicycle net) t ask.from to
-  none_there t apart beyond E = stop_none (bicycle net) t ask.from to all_fair (stop_at_node t E) apart (omega (arith, Q.whole))
+  none_there t apart beyond E = stop_none (bicycle net) t ask.from to all_fair (node_stop t E) apart (omega (arith, Q.whole))
 
   -- one that met the run with this key
   module _ {best previous : List ℕ} {met : Met} (M : MetAt net ask (set goals to 1) best previous met) where
@@ -104,7 +103,7 @@ module _ {net index : List ℕ} {ask : Ask} {to : ℕ} (Q : Question net index a
 
     -- its chain ends
     pub met_ends : Ends ask.runs (at previous) (run_in met.key)
-    met_ends = rw Q.ready.counted.count (stop_ends (bicycle net) met.tolerance ask.from to all_fair (stop_at_node met.tolerance M.stop) low_key)
+    met_ends = rw Q.ready.counted.count (stop_ends (bicycle net) met.tolerance ask.from to all_fair (node_stop met.tolerance M.stop) low_key)
 
     -- and where it is written, it is the answer
     pub first_found : {place count level : ℕ} {before after : List ℕ} → (ask.from ≡ to → ⊥)
@@ -119,5 +118,5 @@ module _ {net index : List ℕ} {ask : Ask} {to : ℕ} (Q : Question net index a
           high = M.high;
           none_below = λ h. let N = M.none_below h in none_there (met.tolerance - 1) apart N.beyond N.stop;
           written =
-              stop_written (bicycle net) met.tolerance ask.from to all_fair (stop_at_node met.tolerance M.stop) apart low_key (rw Q.ready.counted.count at T) text level;
+              stop_written (bicycle net) met.tolerance ask.from to all_fair (node_stop met.tolerance M.stop) apart low_key (rw Q.ready.counted.count at T) text level;
         }
