@@ -67,17 +67,15 @@ pub record FrameLine (u : List ℕ) (size : ℕ) : Type 0 where
 
 pub frame_line : (u : List ℕ) (size : ℕ) → 0 < size → length (bytes_of (line_of u)) ≡ size → FrameLine u size
 frame_line u size z e =
-    let v = line_after u 0 size (omega arith) z e in
-    let s : 0 + (2 * size + 1) ≡ 2 * size + 1 = omega arith in
-    let r : 2 * size + 1 ≤ length u = omega (arith, v.0) in
+    let v = line_after u size z e in
     let g = line_digits u size z e in
-    let h = digits_line (2 * size) u (omega arith) g.0 g.1 in
+    let h = digits_line (2 * size) u (omega (arith, v.0)) g.0 g.1 in
     record {
-      room = r;
-      rest = v.1 ∙ ap (λ (k : ℕ). drop k u) s ∙ sym h.1;
+      room = v.0;
+      rest = v.1 ∙ sym h.1;
       after = h.1;
       parts =
           sym (take-append-drop (2 * size) u)
-          ∙ ap (λ (x : List ℕ). take (2 * size) u ++ x) (drop_one u (2 * size) (omega arith) ∙ rw (g.1, sym h.1))
+          ∙ ap (λ (x : List ℕ). take (2 * size) u ++ x) (drop_one u (2 * size) (omega (arith, v.0)) ∙ rw (g.1, sym h.1))
           ∙ ap (λ (x : List ℕ). x ++ (10 ∷ after_line u)) (sym h.0);
     }

@@ -47,7 +47,7 @@ fn line_start(text: &[u8], line: usize) -> usize
         return 0;
     }
     let mut first = [0u8; fields::HEAD_BYTES];
-    decode_into(text, 0, &mut first);
+    decode_into(text, &mut first);
     let head = head_of(&first);
     let size = frame_bytes(head.edition);
     fields::HEAD_LINE + (2 * size + 1) * (line - 2)

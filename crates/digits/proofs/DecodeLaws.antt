@@ -9,6 +9,7 @@ use native.Mathlib.Omega.{arith}
 use native.Mathlib.Nat.{sub-zero, mul-zero}
 use lib.ListN.{length, get_or, take, drop, set, length-set, length-append, length-take, length-drop, drop_of_length-le}
 use lib.Seq.{drop-drop, get_or-drop, take_all, take_at}
+use Rattle.std.proofs.lemmas.List.{take_rest}
 use Rattle.lists.proofs.Lists.{times_next, take_stored}
 use Rattle.digits.specs.Digits.{is_digit}
 use Rattle.digits.specs.Steps.Scan.{spelled, are_digits, made, values_of, pair_at, paired, Valued, Decoding}
@@ -67,18 +68,16 @@ and_assoc : (a b x : Bool) → ((a && b) && x) ≡ (a && (b && x))
 and_assoc true b x = refl
 and_assoc false b x = refl
 
-pub value_here : (t : List ℕ) (at k : ℕ) → get_or t (at + k) 0 ≡ get_or (drop (1 * k) (drop at t)) 0 0
-value_here t at k =
-    let o : at + 1 * k + 0 ≡ at + k = omega arith in
-    sym (rw (drop-drop (1 * k) at t, get_or-drop (at + 1 * k) t 0 0, o))
+pub value_here : (t : List ℕ) (k : ℕ) → get_or t k 0 ≡ get_or (drop (1 * k) t) 0 0
+value_here t k =
+    let o : 1 * k + 0 ≡ k = omega arith in
+    sym (rw (get_or-drop (1 * k) t 0 0, o))
 
-pub digits_step : (good : Bool) {g : Bool} (n k : ℕ) (t : List ℕ) (at : ℕ) → k < n → g ≡ is_digit (get_or t (at + k) 0)
-    → ((good && g) && are_digits (n - (k + 1)) (drop (k + 1) (drop at t))) ≡ (good && are_digits (n - k) (drop k (drop at t)))
-digits_step good {g} n k t at h e =
+pub digits_step : (good : Bool) {g : Bool} (n k : ℕ) (t : List ℕ) → k < n → g ≡ is_digit (get_or t k 0)
+    → ((good && g) && are_digits (n - (k + 1)) (drop (k + 1) t)) ≡ (good && are_digits (n - k) (drop k t))
+digits_step good {g} n k t h e =
     and_assoc good g _
-    ∙ ap (λ (x : Bool). good && x)
-    (ap (λ (x : Bool). x && are_digits (n - (k + 1)) (drop (k + 1) (drop at t))) (e ∙ ap is_digit (sym (get_or-drop at t k 0)))
-    ∙ sym (digits_next n k (drop at t) h))
+    ∙ ap (λ (x : Bool). good && x) (ap (λ (x : Bool). x && are_digits (n - (k + 1)) (drop (k + 1) t)) e ∙ sym (digits_next n k t h))
 
 pub digits_end : (good : Bool) (n k : ℕ) (t : List ℕ) → n ≤ k → good ≡ (good && are_digits (n - k) t)
 unfolding are_digits
@@ -176,11 +175,11 @@ module _ (n start : ℕ) (t : List ℕ) (h : n ≡ start + 16) (l : start ≤ 16
       (sym (spelled_parts start 16 t))
 
 -- both parts decoded, the second put over the first
-module _ (at : ℕ) (t d : List ℕ) {b₁ b₂ : List ℕ} {r₁ r₂ : Bool} (least : 16 ≤ length d) (most : length d ≤ 32) where
+module _ (t d : List ℕ) {b₁ b₂ : List ℕ} {r₁ r₂ : Bool} (least : 16 ≤ length d) (most : length d ≤ 32) where
   pub parts_join : let start = length d - 16 in let d₁ = b₁ ++ drop 16 d in
-      Decoding (length (take 16 d)) (drop at t) b₁ r₁
-      → Decoding (length (take (length d - start) (drop start d₁))) (drop (at + 2 * start) t) b₂ r₂
-      → Decoding (length d) (drop at t) (take start d₁ ++ (b₂ ++ drop (length d - start) (drop start d₁))) (r₁ && r₂)
+      Decoding (length (take 16 d)) t b₁ r₁
+      → Decoding (length (take (length d - start) (drop start d₁))) (take (length t - 2 * start) (drop (2 * start) t)) b₂ r₂
+      → Decoding (length d) t (take start d₁ ++ (b₂ ++ drop (length d - start) (drop start d₁))) (r₁ && r₂)
   parts_join p q =
       let start = length d - 16 in
       let d₁ = b₁ ++ drop 16 d in
@@ -188,17 +187,16 @@ module _ (at : ℕ) (t d : List ℕ) {b₁ b₂ : List ℕ} {r₁ r₂ : Bool} (
       let l : start ≤ 16 = omega arith in
       let m : length d - start ≡ 16 = omega arith in
       let e₁ : length (take 16 d) ≡ 16 = simp length-take (omega arith) in
-      let f : b₁ ≡ spelled 16 (drop at t) = p.bytes ∙ ap (λ (i : ℕ). spelled i (drop at t)) e₁ in
-      let k : length d₁ ≡ length d =
-      omega (arith, length-append b₁ (drop 16 d), length-drop 16 d, ap length f, length_spelled 16 (drop at t)) in
+      let f : b₁ ≡ spelled 16 t = p.bytes ∙ ap (λ (i : ℕ). spelled i t) e₁ in
+      let k : length d₁ ≡ length d = omega (arith, length-append b₁ (drop 16 d), length-drop 16 d, ap length f, length_spelled 16 t) in
       let e₂ : length (take (length d - start) (drop start d₁)) ≡ 16 = simp (length-take, length-drop) (omega arith) in
-      let u : drop (at + 2 * start) t ≡ drop (2 * start) (drop at t) = sym (drop-drop (2 * start) at t) in
-      let g : b₂ ≡ spelled 16 (drop (2 * start) (drop at t)) = q.bytes ∙ ap₂ spelled e₂ u in
+      let u : take (length t - 2 * start) (drop (2 * start) t) ≡ drop (2 * start) t = take_rest t (2 * start) in
+      let g : b₂ ≡ spelled 16 (drop (2 * start) t) = q.bytes ∙ ap₂ spelled e₂ u in
       let z : drop (length d - start) (drop start d₁) ≡ [] =
       drop-drop (length d - start) start d₁ ∙ drop_of_length-le d₁ {i = start + (length d - start)} (omega arith) in
       record {
-        bytes = rw (z, append-nil, f, g) (overlapping_bytes (length d) start (drop at t) h l (drop 16 d));
+        bytes = rw (z, append-nil, f, g) (overlapping_bytes (length d) start t h l (drop 16 d));
         digits =
-            ap₂ ◌&&◌ (p.digits ∙ ap (λ (i : ℕ). are_digits (2 * i) (drop at t)) e₁)
-            (q.digits ∙ ap₂ (λ (i : ℕ) (v : List ℕ). are_digits (2 * i) v) e₂ u) ∙ overlapping_digits (length d) start (drop at t) h l;
+            ap₂ ◌&&◌ (p.digits ∙ ap (λ (i : ℕ). are_digits (2 * i) t) e₁)
+            (q.digits ∙ ap₂ (λ (i : ℕ) (v : List ℕ). are_digits (2 * i) v) e₂ u) ∙ overlapping_digits (length d) start t h l;
       }

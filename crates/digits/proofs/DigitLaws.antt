@@ -7,8 +7,7 @@ use mathlib.Core.Path.{◌≡◌, refl, sym, ap, ◌∙◌}
 use mathlib.Core.List.{List, [], ◌∷◌, ◌++◌}
 use native.Mathlib.Omega.{arith}
 use lib.Dec.{eqb}
-use lib.ListN.{length, get_or, drop, length-drop}
-use lib.Seq.{drop-drop}
+use lib.ListN.{length, get_or, drop}
 use borrow.Author.Tests.{eq-eqb, ne_eqb, eqb-true}
 use Rattle.lists.proofs.Facts.{and_true, true_and}
 use Rattle.lists.proofs.Lists.{drop_two}
@@ -198,9 +197,5 @@ digits_of_line t n (line bs r) z p e = (rw e at p.3, rw e at p.4)
 pub line_digits : (t : List ℕ) (n : ℕ) → 0 < n → length (bytes_of (line_of t)) ≡ n → (are_digits (2 * n) t ≡ true) × (get_or t (2 * n) 0 ≡ 10)
 line_digits t n z e = digits_of_line t n (line_of t) z (fronts t) e
 
-pub line_after : (t : List ℕ) (at n : ℕ) → at ≤ length t → 0 < n → length (bytes_of (line_of (drop at t))) ≡ n
-    → (at + (2 * n + 1) ≤ length t) × (rest_of (line_of (drop at t)) ≡ drop (at + (2 * n + 1)) t)
-line_after t at n a z e =
-    let q : (2 * n + 1 ≤ length (drop at t)) × (rest_of (line_of (drop at t)) ≡ drop (2 * n + 1) (drop at t)) =
-    after_line_lem (drop at t) n (line_of (drop at t)) z (fronts (drop at t)) e in
-    (omega (arith, q.0, length-drop at t), q.1 ∙ drop-drop (2 * n + 1) at t)
+pub line_after : (t : List ℕ) (n : ℕ) → 0 < n → length (bytes_of (line_of t)) ≡ n → (2 * n + 1 ≤ length t) × (rest_of (line_of t) ≡ drop (2 * n + 1) t)
+line_after t n z e = after_line_lem t n (line_of t) z (fronts t) e

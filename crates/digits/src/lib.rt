@@ -2,7 +2,7 @@
 // known. The definitions are in specs/; every function is equated with one of them.
 #![tactic(auto)]
 
-ghost use Rattle.std.specs.Prelude.{ℕ, ◌+◌, ◌*◌, ◌≤◌, ◌<◌, ◌≡◌, length, get_or, drop};
+ghost use Rattle.std.specs.Prelude.{ℕ, ◌+◌, ◌*◌, ◌≤◌, ◌<◌, ◌≡◌, length, get_or};
 ghost use Rattle.digits.specs.Digits.{is_digit, digit, line_of};
 ghost use Rattle.digits.specs.Steps.Scan.{scanned, paired, Valued, Decoding};
 
@@ -45,14 +45,13 @@ fn byte_of(high: u8, low: u8) -> u8
     (pair * 4097 / 256 % 256) as u8
 }
 
-// The line at a place of a text, without storing its bytes: a line may be of any length. After the last whole pair at most one byte is left.
-pub fn scan_line(text: &[u8], at: usize) -> Option<Scanned>
-    requires { at ≤ length text.now }
-    ensures { result ≡ scanned 0 0 (line_of (drop at text.now)) }
+// The line at the front of a text, without storing its bytes: a line may be of any length. After the last whole pair at most one byte is left.
+pub fn scan_line(text: &[u8]) -> Option<Scanned>
+    ensures { result ≡ scanned 0 0 (line_of text.now) }
 {
     let mut count: usize = 0;
     let mut sum: usize = 0;
-    let pairs = text[at..].chunks_exact(2);
+    let pairs = text.chunks_exact(2);
     let last = pairs.remainder();
     for pair in pairs {
         if pair[0] == 10 {
@@ -73,15 +72,15 @@ pub fn scan_line(text: &[u8], at: usize) -> Option<Scanned>
     Some(Scanned { count, sum })
 }
 
-// Fills values with those of the digits at a place of a text, and tells whether all are digits. It does not stop at one that is none, so that the
-// compiler can take many at a step.
-fn values_of(text: &[u8], at: usize, values: &mut [u8]) -> bool
-    requires { at + length values.old ≤ length text.now }
-    ensures { Valued (length values.old) (drop at text.now) values.new result }
+// Fills values with those of a text's first digits, and tells whether all are digits. It does not stop at one that is none, so that the compiler can
+// take many at a step.
+fn values_of(text: &[u8], values: &mut [u8]) -> bool
+    requires { length values.old ≤ length text.now }
+    ensures { Valued (length values.old) text.now values.new result }
 {
     let mut good = true;
     for (k, value) in values.iter_mut().enumerate() {
-        let x = text[at + k];
+        let x = text[k];
         *value = digit_of(x);
         good &= is_digit(x);
     }
@@ -98,38 +97,38 @@ fn join_values(values: &[u8], bytes: &mut [u8])
     }
 }
 
-// Fills bytes from the digits at a place of a text, by way of their values, and tells whether all are digits.
-fn decode_by(text: &[u8], at: usize, values: &mut [u8], bytes: &mut [u8]) -> bool
-    requires { (at + 2 * length bytes.old ≤ length text.now) × (length values.old ≡ 2 * length bytes.old) }
-    ensures { Decoding (length bytes.old) (drop at text.now) bytes.new result }
+// Fills bytes from a text's first digits, by way of their values, and tells whether all are digits.
+fn decode_by(text: &[u8], values: &mut [u8], bytes: &mut [u8]) -> bool
+    requires { (2 * length bytes.old ≤ length text.now) × (length values.old ≡ 2 * length bytes.old) }
+    ensures { Decoding (length bytes.old) text.now bytes.new result }
 {
-    let good = values_of(text, at, values);
+    let good = values_of(text, values);
     join_values(values, bytes);
     good
 }
 
 // The same for at most 16 bytes, with room of its own for the values.
-fn decode_part(text: &[u8], at: usize, bytes: &mut [u8]) -> bool
-    requires { (at + 2 * length bytes.old ≤ length text.now) × (length bytes.old ≤ 16) }
-    ensures { Decoding (length bytes.old) (drop at text.now) bytes.new result }
+fn decode_part(text: &[u8], bytes: &mut [u8]) -> bool
+    requires { (2 * length bytes.old ≤ length text.now) × (length bytes.old ≤ 16) }
+    ensures { Decoding (length bytes.old) text.now bytes.new result }
 {
     let mut values = [0u8; 32];
     let size = 2 * bytes.len();
-    decode_by(text, at, &mut values[..size], bytes)
+    decode_by(text, &mut values[..size], bytes)
 }
 
-// Fills at most 32 bytes from the digits at a place of a text, and tells whether all are digits. Of more than 16 bytes the first 16 and the last 16 are
-// made, which may overlap: parts of a length that is known need no steps for what is left over.
-pub fn decode_into(text: &[u8], at: usize, bytes: &mut [u8]) -> bool
-    requires { (at + 2 * length bytes.old ≤ length text.now) × (length bytes.old ≤ 32) }
-    ensures { Decoding (length bytes.old) (drop at text.now) bytes.new result }
+// Fills at most 32 bytes from a text's first digits, and tells whether all are digits. Of more than 16 bytes the first 16 and the last 16 are made, which
+// may overlap: parts of a length that is known need no steps for what is left over.
+pub fn decode_into(text: &[u8], bytes: &mut [u8]) -> bool
+    requires { (2 * length bytes.old ≤ length text.now) × (length bytes.old ≤ 32) }
+    ensures { Decoding (length bytes.old) text.now bytes.new result }
 {
     let n = bytes.len();
     if n < 16 {
-        return decode_part(text, at, bytes);
+        return decode_part(text, bytes);
     }
     let start = n - 16;
-    let first = decode_part(text, at, &mut bytes[0..16]);
-    let last = decode_part(text, at + 2 * start, &mut bytes[start..n]);
+    let first = decode_part(text, &mut bytes[0..16]);
+    let last = decode_part(&text[2 * start..], &mut bytes[start..n]);
     first & last
 }

@@ -137,7 +137,7 @@ pub fn same_reading(rt: &impl Print, text: &[u8], net: &[u8]) -> io::Result<()> 
     }
     let first = [net[0], net[1], net[2], net[3], net[4], net[5], net[6]];
     if head_ok(&first) {
-        if judge_in_county(text, fields::HEAD_LINE, &first) != Ok(net.len()) {
+        if judge_in_county(&text[fields::HEAD_LINE..], &first) != Ok(net.len()) {
             differs(rt)?;
         }
     }

@@ -65,13 +65,12 @@ line_kept e n left at taken sofar u b h =
     let q = not_first (is_empty u) 5 at _ b h in
     let r = no_fault_kept _ at _ b q.1 in
     let g : Faultless e n true taken (bytes_of (line_of u)) = faultless e n true taken (bytes_of (line_of u)) r.0 in
-    let v = line_after u 0 (frame_bytes e) (omega arith) (omega (arith, frame_least e)) g.follows.size in
-    let z : 0 + (2 * frame_bytes e + 1) ≡ 2 * frame_bytes e + 1 = omega arith in
+    let v = line_after u (frame_bytes e) (omega (arith, frame_least e)) g.follows.size in
     record {
       good = g;
       spells = line_spells u (frame_bytes e) g.follows.size;
-      room = omega (arith, v.0);
-      rest = v.1 ∙ ap (λ (k : ℕ). drop k u) z;
+      room = v.0;
+      rest = v.1;
       later = r.1;
     }
 
@@ -109,14 +108,14 @@ head_kept t room b f =
     let r = no_fault_kept _ 1 _ b q.1 in
     let h : List ℕ = bytes_of (line_of t) in
     let w : HeadFollows h = head_follows h r.0 in
-    let v = line_after t 0 7 (omega arith) (omega arith) w.size in
+    let v = line_after t 7 (omega arith) w.size in
     let p = not_second (leb (kept_bytes h) room) _ 1 _ b r.1 in
     record {
       head = h;
       head_is = refl;
       follows = w;
       spells = line_spells t 7 w.size;
-      room_in = omega (arith, v.0);
+      room_in = v.0;
       rest = v.1;
       fits = leb-true _ _ p.0;
       later = p.1;

@@ -8,10 +8,11 @@ use mathlib.Core.List.{List, [], ◌++◌}
 use native.Mathlib.Omega.{arith}
 use native.Mathlib.Nat.{sub-zero, mul-zero}
 use lib.Dec.{ltb}
-use lib.ListN.{length, drop, length-append}
+use lib.ListN.{length, drop, take, length-append}
 use borrow.Author.Tests.{ltb-true, ltb-false}
 use Rattle.lists.specs.Lists.{is_empty}
-use Rattle.lists.proofs.Lists.{drop_some, drop_none, times_next}
+use Rattle.std.proofs.lemmas.List.{take_rest}
+use Rattle.lists.proofs.Lists.{times_next}
 use Rattle.refusals.specs.declared.Refusal.{Refusal}
 use Rattle.refusals.specs.declared.Refusal.TheVariants.{WrongCount}
 use Rattle.refusals.specs.Numbers.{number_of}
@@ -30,8 +31,8 @@ use Rattle.digits.specs.Digits.{line_of, bytes_of, rest_of}
 use Rattle.digits.proofs.DigitLaws.{line_after}
 use Rattle.text.specs.Read.{Reading, unless_fault, segment_lines, refused, kept}
 use Rattle.text.specs.Told.{told, told_of, written}
-use Rattle.text.specs.Steps.Lines.{bytes_at, fault_after, LineJudged}
-use Rattle.std.specs.Prelude.{Result, Ok, Err}
+use Rattle.text.specs.Steps.Lines.{line_bytes, fault_after, LineJudged}
+use Rattle.std.specs.Prelude.{Result, Ok, Err, ⊤}
 use Rattle.text.specs.Told.{refused_at}
 use Rattle.text.proofs.LineLaws.{tells_frame, tells_fault}
 
@@ -70,21 +71,19 @@ module _ (e n at : ℕ) (taken sofar text : List ℕ) where
   unfolding segment_lines
   line_beyond x h f = rw (h, f)
 
--- ---- the loop
-pub record Going (t h : List ℕ) (start : ℕ) (head : Head) (s at : ℕ) (d : List ℕ) : Type 0 where
+-- ---- the loop: these lines are left, of those after the head
+pub record Going (h all : List ℕ) (head : Head) (s : ℕ) (rest d : List ℕ) : Type 0 where
   pub taken : List ℕ
   pub sofar : List ℕ
   pub runs : length taken ≡ 2 * s
   pub long : length sofar ≡ 7 + frame_bytes head.edition * s
   pub low : s ≤ head.segments
   pub limited : Limited head
-  pub place : at ≤ length t
   pub indexed : Indexed head.nodes taken d
-  pub whole : segment_lines head.edition head.nodes (head.segments - s) (s + 2) taken sofar (drop at t) ≡ segment_lines head.edition head.nodes head.segments 2 [] h (drop start t)
+  pub whole : segment_lines head.edition head.nodes (head.segments - s) (s + 2) taken sofar rest ≡ segment_lines head.edition head.nodes head.segments 2 [] h all
 
-pub starts : {t h : List ℕ} {start : ℕ} {head : Head} {d : List ℕ} → start ≤ length t → length h ≡ 7 → Limited head → Indexed head.nodes [] d
-    → Going t h start head 0 start d
-starts {t} {h} {start} {head} a l o x =
+pub starts : {h all : List ℕ} {head : Head} {d : List ℕ} → length h ≡ 7 → Limited head → Indexed head.nodes [] d → Going h all head 0 all d
+starts {h} {all} {head} {d} l o x =
     record {
       taken = [];
       sofar = h;
@@ -92,76 +91,85 @@ starts {t} {h} {start} {head} a l o x =
       long = l ∙ ap (λ (z : ℕ). 7 + z) (sym (mul-zero (frame_bytes head.edition)));
       low = omega arith;
       limited = o;
-      place = a;
       indexed = x;
       whole = rw sub-zero;
     }
 
-module _ {t h : List ℕ} {start : ℕ} {head : Head} {s at : ℕ} {d : List ℕ} (w : Going t h start head s at d) where
+module _ {h all : List ℕ} {head : Head} {s : ℕ} {rest d : List ℕ} (w : Going h all head s rest d) where
   -- a line's number by the index is its number by the legs taken
-  numbered : {x : ℕ} → fault_after head s d (bytes_at t at) ≡ x → segment_fault head.edition head.nodes (ltb s head.segments) w.taken (bytes_at t at) ≡ x
-  numbered f = sym (index_fault_lem w.indexed head.edition (ltb s head.segments) (bytes_at t at)) ∙ f
+  numbered : {x : ℕ} → fault_after head s d (line_bytes rest) ≡ x → segment_fault head.edition head.nodes (ltb s head.segments) w.taken (line_bytes rest) ≡ x
+  numbered f = sym (index_fault_lem w.indexed head.edition (ltb s head.segments) (line_bytes rest)) ∙ f
 
-  pub refuses : {d' : List ℕ} {r : Result ℕ Refusal} {fault : Refusal} → at < length t
-      → LineJudged t at head s d d' r → r ≡ Err fault
-      → told (Err (refused_at fault (s + 2))) ≡ told_of (segment_lines head.edition head.nodes head.segments 2 [] h (drop start t))
+  pub refuses : {d' : List ℕ} {r : Result ⊤ Refusal} {fault : Refusal} → is_empty rest ≡ false
+      → LineJudged rest head s d d' r → r ≡ Err fault
+      → told (Err (refused_at fault (s + 2))) ≡ told_of (segment_lines head.edition head.nodes head.segments 2 [] h all)
   refuses {d'} {r} {fault} l g x =
-      ap told_of (sym (go (ltb s head.segments) refl (numbered (tells_fault _ _ g.answer x))) ∙ w.whole)
+      ap told_of (sym (go (ltb s head.segments) refl (numbered (tells_fault _ g.answer x))) ∙ w.whole)
     where
-      go : (m : Bool) → ltb s head.segments ≡ m → segment_fault head.edition head.nodes m w.taken (bytes_at t at) ≡ number_of fault
-          → segment_lines head.edition head.nodes (head.segments - s) (s + 2) w.taken w.sofar (drop at t) ≡ refused (number_of fault) (s + 2)
+      go : (m : Bool) → ltb s head.segments ≡ m → segment_fault head.edition head.nodes m w.taken (line_bytes rest) ≡ number_of fault
+          → segment_lines head.edition head.nodes (head.segments - s) (s + 2) w.taken w.sofar rest ≡ refused (number_of fault) (s + 2)
       go true p f =
           let z : head.segments - s ≡ suc (head.segments - (s + 1)) = omega (arith, ltb-true s head.segments p) in
-          rw z (bad_line head.edition head.nodes (s + 2) w.taken w.sofar (drop at t) (head.segments - (s + 1)) _ (drop_some t at l) f (positive fault))
+          rw z (bad_line head.edition head.nodes (s + 2) w.taken w.sofar rest (head.segments - (s + 1)) _ l f (positive fault))
       go false p f =
           let z : head.segments - s ≡ 0 = omega (arith, ltb-false s head.segments p) in
-          rw z (line_beyond head.edition head.nodes (s + 2) w.taken w.sofar (drop at t) _ (drop_some t at l) f)
+          rw z (line_beyond head.edition head.nodes (s + 2) w.taken w.sofar rest _ l f)
 
-  pub lacks : length t ≤ at → s < head.segments → told (Err (refused_at WrongCount (s + 2))) ≡ told_of (segment_lines head.edition head.nodes head.segments 2 [] h (drop start t))
+  pub lacks : is_empty rest ≡ true → s < head.segments
+      → told (Err (refused_at WrongCount (s + 2))) ≡ told_of (segment_lines head.edition head.nodes head.segments 2 [] h all)
   lacks l m =
       let z : head.segments - s ≡ suc (head.segments - (s + 1)) = omega arith in
-      ap told_of (sym (too_few head.edition head.nodes (s + 2) w.taken w.sofar (drop at t) (head.segments - (s + 1)) (drop_none t at l)) ∙ rw z at w.whole)
+      ap told_of (sym (too_few head.edition head.nodes (s + 2) w.taken w.sofar rest (head.segments - (s + 1)) l) ∙ rw z at w.whole)
 
-  pub keeps : {count : ℕ} → count ≡ 7 + frame_bytes head.edition * head.segments → length t ≤ at → head.segments ≤ s
-      → told (Ok count) ≡ told_of (segment_lines head.edition head.nodes head.segments 2 [] h (drop start t))
+  pub keeps : {count : ℕ} → count ≡ 7 + frame_bytes head.edition * head.segments → is_empty rest ≡ true → head.segments ≤ s
+      → told (Ok count) ≡ told_of (segment_lines head.edition head.nodes head.segments 2 [] h all)
   keeps {count} q l m =
       let z : head.segments - s ≡ 0 = omega arith in
       let y : head.segments ≡ s = omega (arith, w.low) in
       ap written (q ∙ ap (λ (i : ℕ). 7 + frame_bytes head.edition * i) y ∙ sym w.long)
-      ∙ ap told_of (sym (all_kept head.edition head.nodes (s + 2) w.taken w.sofar (drop at t) (drop_none t at l)) ∙ rw z at w.whole)
+      ∙ ap told_of (sym (all_kept head.edition head.nodes (s + 2) w.taken w.sofar rest l) ∙ rw z at w.whole)
 
-  pub goes_on : {d' : List ℕ} {r : Result ℕ Refusal} {next : ℕ} → at < length t
-      → LineJudged t at head s d d' r → r ≡ Ok next
-      → Going t h start head (s + 1) next d'
-  goes_on {d'} {r} {next} l g x =
-      let f : List ℕ = bytes_at t at in
-      let q : (fault_after head s d f ≡ 0) × (next ≡ at + 2 * frame_bytes head.edition + 1) = tells_frame _ _ g.answer x in
-      let k : Faultless head.edition head.nodes (ltb s head.segments) w.taken f = faultless head.edition head.nodes (ltb s head.segments) w.taken f (numbered q.0) in
-      let z : segment_fault head.edition head.nodes true w.taken f ≡ 0 =
-      subst (λ (y : Bool). segment_fault head.edition head.nodes y w.taken f ≡ 0) k.counted (numbered q.0) in
-      let o = corners_few head.nodes f k.follows.ends in
-      let y : length f ≡ frame_bytes head.edition = k.follows.size in
-      let v = line_after t at (frame_bytes head.edition) w.place (omega (arith, frame_least head.edition)) y in
-      let e₀ : next ≡ at + (2 * frame_bytes head.edition + 1) = omega (arith, q.1) in
-      let below : s < head.segments = ltb-true s head.segments k.counted in
-      let i : d' ≡ claimed d s f = g.index ∙ rw q.0 in
-      record {
-        taken = taking w.taken f;
-        sofar = w.sofar ++ f;
-        runs = omega (arith, w.runs);
-        long = omega (arith, w.long, length-append w.sofar f, y, times_next (frame_bytes head.edition) s);
-        low = omega arith;
-        limited = w.limited;
-        place = omega (arith, v.0, q.1);
-        indexed = subst (λ (j : List ℕ). Indexed head.nodes (taking w.taken f) j) (sym i) (claimed_indexed w.indexed s f w.runs o.0 o.1);
-        whole =
-            let e₁ : s + 1 + 2 ≡ s + 2 + 1 = omega arith in
-            let e₂ : drop next t ≡ rest_of (line_of (drop at t)) = ap (λ (j : ℕ). drop j t) e₀ ∙ sym v.1 in
-            let e₃ : suc (head.segments - (s + 1)) ≡ head.segments - s = omega arith in
-            subst₂
-            (λ (j : ℕ) (u : List ℕ). segment_lines head.edition head.nodes (head.segments - (s + 1)) j (taking w.taken f) (w.sofar ++ f) u
-            ≡ segment_lines head.edition head.nodes head.segments 2 [] h (drop start t))
-            (sym e₁) (sym e₂)
-            (sym (good_line head.edition head.nodes (s + 2) w.taken w.sofar (drop at t) (head.segments - (s + 1)) (drop_some t at l) z)
-            ∙ ap (λ (j : ℕ). segment_lines head.edition head.nodes j (s + 2) w.taken w.sofar (drop at t)) e₃ ∙ w.whole);
-      }
+  -- a line that has no fault is a frame's
+  module _ {d' : List ℕ} {r : Result ⊤ Refusal} {done : ⊤} (g : LineJudged rest head s d d' r) (x : r ≡ Ok done) where
+    no_fault : fault_after head s d (line_bytes rest) ≡ 0
+    no_fault = tells_frame _ g.answer x
+
+    good : Faultless head.edition head.nodes (ltb s head.segments) w.taken (line_bytes rest)
+    good = faultless head.edition head.nodes (ltb s head.segments) w.taken (line_bytes rest) (numbered no_fault)
+
+    after : (2 * frame_bytes head.edition + 1 ≤ length rest) × (rest_of (line_of rest) ≡ drop (2 * frame_bytes head.edition + 1) rest)
+    after = line_after rest (frame_bytes head.edition) (omega (arith, frame_least head.edition)) good.follows.size
+
+    pub room : {size : ℕ} → size ≡ frame_bytes head.edition → 2 * size + 1 ≤ length rest
+    room e = omega (arith, e, after.0)
+
+    pub goes_on : {size : ℕ} → size ≡ frame_bytes head.edition → is_empty rest ≡ false
+        → Going h all head (s + 1) (take (length rest - (2 * size + 1)) (drop (2 * size + 1) rest)) d'
+    goes_on {size} e l =
+        let f : List ℕ = line_bytes rest in
+        let k = good in
+        let z : segment_fault head.edition head.nodes true w.taken f ≡ 0 =
+        subst (λ (y : Bool). segment_fault head.edition head.nodes y w.taken f ≡ 0) k.counted (numbered no_fault) in
+        let o = corners_few head.nodes f k.follows.ends in
+        let below : s < head.segments = ltb-true s head.segments k.counted in
+        let i : d' ≡ claimed d s f = g.index ∙ rw no_fault in
+        record {
+          taken = taking w.taken f;
+          sofar = w.sofar ++ f;
+          runs = omega (arith, w.runs);
+          long = omega (arith, w.long, length-append w.sofar f, k.follows.size, times_next (frame_bytes head.edition) s);
+          low = omega arith;
+          limited = w.limited;
+          indexed = subst (λ (j : List ℕ). Indexed head.nodes (taking w.taken f) j) (sym i) (claimed_indexed w.indexed s f w.runs o.0 o.1);
+          whole =
+              let e₁ : s + 1 + 2 ≡ s + 2 + 1 = omega arith in
+              let e₂ : take (length rest - (2 * size + 1)) (drop (2 * size + 1) rest) ≡ rest_of (line_of rest) =
+              take_rest rest (2 * size + 1) ∙ ap (λ (j : ℕ). drop (2 * j + 1) rest) e ∙ sym after.1 in
+              let e₃ : suc (head.segments - (s + 1)) ≡ head.segments - s = omega arith in
+              subst₂
+              (λ (j : ℕ) (u : List ℕ). segment_lines head.edition head.nodes (head.segments - (s + 1)) j (taking w.taken f) (w.sofar ++ f) u
+              ≡ segment_lines head.edition head.nodes head.segments 2 [] h all)
+              (sym e₁) (sym e₂)
+              (sym (good_line head.edition head.nodes (s + 2) w.taken w.sofar rest (head.segments - (s + 1)) l z)
+              ∙ ap (λ (j : ℕ). segment_lines head.edition head.nodes j (s + 2) w.taken w.sofar rest) e₃ ∙ w.whole);
+        }

@@ -24,28 +24,27 @@ use network::corners::{COUNTY_CORNERS, TOWN_CORNERS, claim_legs, free_corners};
 use network::kept::kept_bytes;
 use refusals::Refusal;
 
-// Reads the line at a place into the buffer, where it has as many bytes as the buffer: then its digits and its 0A stand where they must, and nothing
-// is searched for.
-fn whole_line(text: &[u8], at: usize, frame: &mut [u8]) -> bool
-    requires { (at ≤ length text.now) × (0 < length frame.old) × (length frame.old ≤ most_bytes) }
-    ensures { LineDecoded text.now at frame.old frame.new result }
+// Reads the first line of what is left of a text into the buffer, where it has as many bytes as the buffer: then its digits and its 0A stand where they
+// must, and nothing is searched for.
+fn whole_line(rest: &[u8], frame: &mut [u8]) -> bool
+    requires { (0 < length frame.old) × (length frame.old ≤ most_bytes) }
+    ensures { LineDecoded rest.now frame.old frame.new result }
 {
     let digits = 2 * frame.len();
-    if text.len() - at <= digits {
+    if rest.len() <= digits {
         return false;
     }
-    if text[at + digits] != 10 {
+    if rest[digits] != 10 {
         return false;
     }
-    decode_into(text, at, frame)
+    decode_into(rest, frame)
 }
 
-// The fault of the line at a place that has another number of bytes than it should.
-fn fault_of(text: &[u8], at: usize) -> Refusal
-    requires { at ≤ length text.now }
-    ensures { LineFault text.now at result }
+// The fault of a first line that has another number of bytes than it should.
+fn fault_of(rest: &[u8]) -> Refusal
+    ensures { LineFault rest.now result }
 {
-    let Some(Scanned { count, sum }) = scan_line(text, at) else {
+    let Some(Scanned { count, sum }) = scan_line(rest) else {
         return Refusal::NotDigits;
     };
     if count == 0 {
@@ -57,13 +56,13 @@ fn fault_of(text: &[u8], at: usize) -> Refusal
     Refusal::WrongFrame
 }
 
-// Reads the line at a place as a frame of this kind and of the buffer's length.
-fn frame_line(text: &[u8], at: usize, kind: u8, frame: &mut [u8]) -> Result<usize, Refusal>
-    requires { (at ≤ length text.now) × (0 < length frame.old) × (length frame.old ≤ most_bytes) }
-    ensures { FrameRead text.now at kind frame.old frame.new result }
+// Reads a first line as a frame of this kind and of the buffer's length.
+fn frame_line(rest: &[u8], kind: u8, frame: &mut [u8]) -> Result<(), Refusal>
+    requires { (0 < length frame.old) × (length frame.old ≤ most_bytes) }
+    ensures { FrameRead rest.now kind frame.old frame.new result }
 {
-    if !whole_line(text, at, frame) {
-        return Err(fault_of(text, at));
+    if !whole_line(rest, frame) {
+        return Err(fault_of(rest));
     }
     if sum_of(frame) != 0 {
         return Err(Refusal::WrongCheck);
@@ -71,19 +70,13 @@ fn frame_line(text: &[u8], at: usize, kind: u8, frame: &mut [u8]) -> Result<usiz
     if frame[fields::KIND] != kind {
         return Err(Refusal::WrongFrame);
     }
-    Ok(at + 2 * frame.len() + 1)
+    Ok(())
 }
 
 // Judges the frame of segment s, whose line had no fault of its own, and takes its legs where it has no fault either.
-fn judge_frame(
-    frame: &[u8],
-    next: usize,
-    head: Head,
-    s: usize,
-    index: &mut [u16],
-) -> Result<usize, Refusal>
+fn judge_frame(frame: &[u8], head: Head, s: usize, index: &mut [u16]) -> Result<(), Refusal>
     requires { (framed 2 (frame_bytes head.edition) frame.now 0 ≡ 0) × HeadFits head index.old }
-    ensures { SegmentJudged frame.now next head s index.old index.new result }
+    ensures { SegmentJudged frame.now head s index.old index.new result }
 {
     if head.segments <= s {
         return Err(Refusal::WrongCount);
@@ -97,39 +90,32 @@ fn judge_frame(
     if !claim_legs(frame, s, index) {
         return Err(Refusal::LegTaken);
     }
-    Ok(next)
+    Ok(())
 }
 
 // Judges the line of segment s, read into a buffer of a frame's length.
 fn judge_line(
-    text: &[u8],
-    at: usize,
+    rest: &[u8],
     head: Head,
     s: usize,
     frame: &mut [u8],
     index: &mut [u16],
-) -> Result<usize, Refusal>
-    requires { (at ≤ length text.now) × HeadFits head index.old × (length frame.old ≡ frame_bytes head.edition) }
-    ensures { LineJudged text.now at head s index.old index.new result }
+) -> Result<(), Refusal>
+    requires { HeadFits head index.old × (length frame.old ≡ frame_bytes head.edition) }
+    ensures { LineJudged rest.now head s index.old index.new result }
 {
-    let next = frame_line(text, at, fields::SEGMENT_KIND, frame)?;
-    judge_frame(frame, next, head, s, index)
+    frame_line(rest, fields::SEGMENT_KIND, frame)?;
+    judge_frame(frame, head, s, index)
 }
 
 // The same with a buffer of its own.
-fn segment_line(
-    text: &[u8],
-    at: usize,
-    head: Head,
-    s: usize,
-    index: &mut [u16],
-) -> Result<usize, Refusal>
-    requires { (at ≤ length text.now) × HeadFits head index.old }
-    ensures { LineJudged text.now at head s index.old index.new result }
+fn segment_line(rest: &[u8], head: Head, s: usize, index: &mut [u16]) -> Result<(), Refusal>
+    requires { HeadFits head index.old }
+    ensures { LineJudged rest.now head s index.old index.new result }
 {
     let mut frame = [0u8; sizes::MOST_BYTES];
     let size = frame_bytes(head.edition);
-    judge_line(text, at, head, s, &mut frame[..size], index)
+    judge_line(rest, head, s, &mut frame[..size], index)
 }
 
 // A refusal of the line with this number.
@@ -139,21 +125,22 @@ fn refused_at(refusal: Refusal, line: usize) -> Refused
     Refused { refusal, line }
 }
 
-// The answer for the lines after a good head, from a place of the text on, with an index that has room for the head's nodes.
+// The answer for the lines after a good head, with an index that has room for the head's nodes. A line that has no fault is as long as each other one.
 fn judge_lines(
-    text: &[u8],
-    start: usize,
+    lines: &[u8],
     first: &[u8; fields::HEAD_BYTES],
     index: &mut [u16],
 ) -> Result<usize, Refused>
-    requires { (start ≤ length text.now) × (head_ok first.now ≡ true) × Indexed (nodes first.now) [] index.old }
-    ensures { told result ≡ told_of (lines_after first.now (drop start text.now)) }
+    requires { (head_ok first.now ≡ true) × Indexed (nodes first.now) [] index.old }
+    ensures { told result ≡ told_of (lines_after first.now lines.now) }
 {
     let head = head_of(first);
+    let line = 2 * frame_bytes(head.edition) + 1;
     let mut s: usize = 0;
-    let mut at = start;
-    while at < text.len() {
-        at = segment_line(text, at, head, s, index).map_err(|refusal| refused_at(refusal, s + 2))?;
+    let mut rest = lines;
+    while !rest.is_empty() {
+        segment_line(rest, head, s, index).map_err(|refusal| refused_at(refusal, s + 2))?;
+        rest = &rest[line..];
         s += 1;
     }
     if s < head.segments {
@@ -164,66 +151,53 @@ fn judge_lines(
 
 // The same in memory of its own for so many corners.
 fn judge_in<const CORNERS: usize>(
-    text: &[u8],
-    start: usize,
+    lines: &[u8],
     first: &[u8; fields::HEAD_BYTES],
 ) -> Result<usize, Refused>
-    requires { (start ≤ length text.now) × (head_ok first.now ≡ true) × (nodes first.now ≤ CORNERS / 8) × (CORNERS ≤ 8 * county_size) }
-    ensures { told result ≡ told_of (lines_after first.now (drop start text.now)) }
+    requires { (head_ok first.now ≡ true) × (nodes first.now ≤ CORNERS / 8) × (CORNERS ≤ 8 * county_size) }
+    ensures { told result ≡ told_of (lines_after first.now lines.now) }
 {
     let mut index = free_corners::<CORNERS>();
-    judge_lines(text, start, first, &mut index)
+    judge_lines(lines, first, &mut index)
 }
 
 // The same in a county's memory. It is never inlined, so that a town takes no stack for a county.
 #[inline(never)]
-pub fn judge_in_county(
-    text: &[u8],
-    start: usize,
-    first: &[u8; fields::HEAD_BYTES],
-) -> Result<usize, Refused>
-    requires { (start ≤ length text.now) × (head_ok first.now ≡ true) }
-    ensures { told result ≡ told_of (lines_after first.now (drop start text.now)) }
+pub fn judge_in_county(lines: &[u8], first: &[u8; fields::HEAD_BYTES]) -> Result<usize, Refused>
+    requires { head_ok first.now ≡ true }
+    ensures { told result ≡ told_of (lines_after first.now lines.now) }
 {
-    judge_in::<COUNTY_CORNERS>(text, start, first)
+    judge_in::<COUNTY_CORNERS>(lines, first)
 }
 
 // The same in a town's memory, where the network is no larger.
-fn judge_segments(
-    text: &[u8],
-    start: usize,
-    first: &[u8; fields::HEAD_BYTES],
-) -> Result<usize, Refused>
-    requires { (start ≤ length text.now) × (head_ok first.now ≡ true) }
-    ensures { told result ≡ told_of (lines_after first.now (drop start text.now)) }
+fn judge_segments(lines: &[u8], first: &[u8; fields::HEAD_BYTES]) -> Result<usize, Refused>
+    requires { head_ok first.now ≡ true }
+    ensures { told result ≡ told_of (lines_after first.now lines.now) }
 {
     let head = head_of(first);
     if is_town(head.nodes, head.segments) {
-        judge_in::<TOWN_CORNERS>(text, start, first)
+        judge_in::<TOWN_CORNERS>(lines, first)
     } else {
-        judge_in_county(text, start, first)
+        judge_in_county(lines, first)
     }
 }
 
-// Judges the head's line, read into `first`, and the output's room. Where it finds no fault, the lines from the place on that it gives decide.
-fn judge_head(
-    text: &[u8],
-    room: usize,
-    first: &mut [u8; fields::HEAD_BYTES],
-) -> Result<usize, Refusal>
+// Judges the head's line, read into `first`, and the output's room. Where it finds no fault, the lines after it decide.
+fn judge_head(text: &[u8], room: usize, first: &mut [u8; fields::HEAD_BYTES]) -> Result<(), Refusal>
     ensures { HeadJudged text.now room first.new result }
 {
     if text.is_empty() {
         return Err(Refusal::WrongFrame);
     }
-    let next = frame_line(text, 0, fields::HEAD_KIND, first)?;
+    frame_line(text, fields::HEAD_KIND, first)?;
     if !head_ok(first) {
         return Err(Refusal::WrongField);
     }
     if room < kept_bytes(head_of(first)) {
         return Err(Refusal::OutputTooShort);
     }
-    Ok(next)
+    Ok(())
 }
 
 // The answer for a text and an output of `room` bytes.
@@ -231,8 +205,8 @@ pub fn judge_text(text: &[u8], room: usize) -> Result<usize, Refused>
     ensures { told result ≡ told_of (read_of text.now room) }
 {
     let mut first = [0; fields::HEAD_BYTES];
-    let next = judge_head(text, room, &mut first).map_err(|refusal| refused_at(refusal, 1))?;
-    judge_segments(text, next, &first)
+    judge_head(text, room, &mut first).map_err(|refusal| refused_at(refusal, 1))?;
+    judge_segments(&text[fields::HEAD_LINE..], &first)
 }
 
 // Writes the bytes of a text that was judged good: its head and so many lines of frames of this size.
@@ -240,11 +214,11 @@ fn write_frames(text: &[u8], size: usize, segments: usize, output: &mut [u8])
     requires { (2 * head_bytes + 1 + (2 * size + 1) * segments ≤ length text.now) × (head_bytes + size * segments ≤ length output.old) × (size ≤ most_bytes) }
     ensures { output.new ≡ spelled_text size segments text.now ++ drop (head_bytes + size * segments) output.old }
 {
-    decode_into(text, 0, &mut output[0..fields::HEAD_BYTES]);
+    decode_into(text, &mut output[0..fields::HEAD_BYTES]);
     for s in 0..segments {
         let at = fields::HEAD_LINE + (2 * size + 1) * s;
         let out = fields::HEAD_BYTES + size * s;
-        decode_into(text, at, &mut output[out..out + size]);
+        decode_into(&text[at..], &mut output[out..out + size]);
     }
 }
 
@@ -254,7 +228,7 @@ pub fn read(text: &[u8], output: &mut [u8]) -> Result<usize, Refused>
 {
     let count = judge_text(text, output.len())?;
     let mut first = [0; fields::HEAD_BYTES];
-    decode_into(text, 0, &mut first);
+    decode_into(text, &mut first);
     let head = head_of(&first);
     write_frames(text, frame_bytes(head.edition), head.segments, output);
     Ok(count)

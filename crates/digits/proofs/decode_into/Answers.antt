@@ -6,5 +6,5 @@ use Rattle.digits.proofs.decode_into.Goals as goal
 pub returns : goal.returns
 returns c =
     let a = c.args in
-    parts_join a.at a.text.now a.bytes.now (omega arith) (omega arith)
+    parts_join a.text.now a.bytes.now (omega arith) (omega arith)
     c.decode_part-first.ensures c.decode_part-last.ensures

@@ -4,8 +4,8 @@ use mathlib.Core.Bool.{Bool, true, false, ◌&&◌}
 use mathlib.Core.List.{List, [], ◌∷◌, ◌++◌, append-nil}
 use mathlib.Core.Path.{◌≡◌, sym, ap, ap₂, ◌∙◌, subst₂}
 use native.Mathlib.Omega.{arith}
-use lib.ListN.{length, take, drop, get_or, length-append, length-drop}
-use lib.Seq.{drop-append-add, take_all}
+use lib.ListN.{length, drop, get_or, length-append}
+use lib.Seq.{drop-append-add}
 use Rattle.std.specs.Slice.Iter.{chunks_exact_rest, chunks_exact_size}
 use Rattle.std.specs.Prelude.{Some, None}
 use Rattle.digits.specs.Digits.{broken, push, line_of, digit, is_digit}
@@ -14,21 +14,21 @@ use Rattle.digits.proofs.DigitLaws.{end_front, odd_front, bad_front, pair_front,
 use Rattle.digits.proofs.scan_line.Invariants.{Scanning}
 use Rattle.digits.proofs.scan_line.Goals as goal
 
-module _ {t : List ℕ} {at size count sum : ℕ} {last left : List ℕ} (w : Scanning t at size last left count sum) (x l : List ℕ) (cut : left ≡ x ++ l) where
-  whole : scanned count sum (line_of (x ++ l)) ≡ scanned 0 0 (line_of (drop at t))
+module _ {t : List ℕ} {size count sum : ℕ} {last left : List ℕ} (w : Scanning t size last left count sum) (x l : List ℕ) (cut : left ≡ x ++ l) where
+  whole : scanned count sum (line_of (x ++ l)) ≡ scanned 0 0 (line_of t)
   whole = ap (λ (u : List ℕ). scanned count sum (line_of u)) (sym cut) ∙ w.whole
 
-  breaks : line_of (x ++ l) ≡ broken → None ≡ scanned 0 0 (line_of (drop at t))
+  breaks : line_of (x ++ l) ≡ broken → None ≡ scanned 0 0 (line_of t)
   unfolding scanned
   breaks e = ap (scanned count sum) (sym e) ∙ whole
 
-  ends : 0 < length x → get_or x 0 0 ≡ 10 → Some (record { count = count; sum = sum }) ≡ scanned 0 0 (line_of (drop at t))
+  ends : 0 < length x → get_or x 0 0 ≡ 10 → Some (record { count = count; sum = sum }) ≡ scanned 0 0 (line_of t)
   ends h e =
       let f = end_front x l h e in
       sym (scanned_end count sum f.0 w.small) ∙ ap (scanned count sum) (sym f.1) ∙ whole
 
   goes_on : {b size' : ℕ} → size' ≡ size → length x ≡ 2 → (get_or x 0 0 ≡ 10 → ⊥) → (is_digit (get_or x 0 0) && is_digit (get_or x 1 0)) ≡ true
-      → b ≡ 16 * digit (get_or x 0 0) + digit (get_or x 1 0) → Scanning t at size' last l (count + 1) ((sum + b) % 256)
+      → b ≡ 16 * digit (get_or x 0 0) + digit (get_or x 1 0) → Scanning t size' last l (count + 1) ((sum + b) % 256)
   goes_on {b} s n e d h =
       record {
         twos = s ∙ w.twos;
@@ -42,27 +42,17 @@ module _ {t : List ℕ} {at size count sum : ℕ} {last left : List ℕ} (w : Sc
             ∙ ap (scanned count sum) (sym (pair_front x l n e d)) ∙ whole;
       }
 
-none_left : {t : List ℕ} {at size count sum : ℕ} {last left : List ℕ} → Scanning t at size last left count sum → length left ≡ 0
-    → None ≡ scanned 0 0 (line_of (drop at t))
+none_left : {t : List ℕ} {size count sum : ℕ} {last left : List ℕ} → Scanning t size last left count sum → length left ≡ 0
+    → None ≡ scanned 0 0 (line_of t)
 unfolding scanned line_of
 none_left {left = []} w e = w.whole
 none_left {left = a ∷ l} w e = absurd (omega arith)
 
-starts : (t : List ℕ) (at : ℕ) {size : ℕ} {last left : List ℕ} → let u = take (length t - at) (drop at t) in
-    size ≡ 2 → left ≡ u → last ≡ drop (length u - length u % 2) u → Scanning t at size last left 0 0
-starts t at {size} {last} {left} s e l =
-    let u = take (length t - at) (drop at t) in
-    let all : u ≡ drop at t = take_all (length t - at) (drop at t) (omega (arith, length-drop at t)) in
-    record {
-      twos = s;
-      tail = rw e (sym l);
-      few = omega (arith, ap length e, ap length all, length-drop at t);
-      small = omega arith;
-      whole = ap (λ (v : List ℕ). scanned 0 0 (line_of v)) (e ∙ all);
-    }
+starts : {t : List ℕ} {size : ℕ} {last left : List ℕ} → size ≡ 2 → left ≡ t → last ≡ drop (length t - length t % 2) t → Scanning t size last left 0 0
+starts s e l = record { twos = s; tail = rw e (sym l); few = omega (arith, ap length e); small = omega arith; whole = rw e }
 
 -- what is left after the last pair
-last_left : {t : List ℕ} {at size count sum : ℕ} {last left : List ℕ} → Scanning t at size last left count sum → length left < size → left ≡ last ++ []
+last_left : {t : List ℕ} {size count sum : ℕ} {last left : List ℕ} → Scanning t size last left count sum → length left < size → left ≡ last ++ []
 last_left {last = last} {left = left} w h =
     let z : length left - length left % 2 ≡ 0 = omega (arith, w.twos) in
     (rw z at w.tail) ∙ sym (append-nil last)
@@ -71,7 +61,7 @@ pub loop-pair-init : goal.loop-pair-init
 loop-pair-init c =
     let p = c.chunks_exact-pairs.ensures in
     let i = c.into_iter-pair-iterator.ensures.into_iter_gives in
-    starts c.args.text.now c.args.at (ap chunks_exact_size i ∙ p.size) (ap chunks_exact_rest i ∙ p.rest) (c.remainder-last.ensures ∙ p.remainder)
+    starts (ap chunks_exact_size i ∙ p.size) (ap chunks_exact_rest i ∙ p.rest) (c.remainder-last.ensures ∙ p.remainder)
 
 pub returns-then-pair-eq10 : goal.returns-then-pair-eq10
 returns-then-pair-eq10 c =

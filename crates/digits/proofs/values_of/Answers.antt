@@ -11,17 +11,16 @@ use Rattle.digits.proofs.DecodeLaws.{filling_goes_on, filling_ends, digits_step,
 use Rattle.digits.proofs.values_of.Invariants.{Valuing}
 use Rattle.digits.proofs.values_of.Goals as goal
 
-module _ {t : List ℕ} {at : ℕ} {d₀ d : List ℕ} {good : Bool} {k : ℕ} (w : Valuing t at d₀ d good k) where
-  goes_on : {b : ℕ} {g : Bool} → k < length d → b ≡ digit (get_or t (at + k) 0) → g ≡ is_digit (get_or t (at + k) 0)
-      → Valuing t at d₀ (set d k b) (good && g) (k + 1)
+module _ {t d₀ d : List ℕ} {good : Bool} {k : ℕ} (w : Valuing t d₀ d good k) where
+  goes_on : {b : ℕ} {g : Bool} → k < length d → b ≡ digit (get_or t k 0) → g ≡ is_digit (get_or t k 0) → Valuing t d₀ (set d k b) (good && g) (k + 1)
   goes_on l e h =
       record {
-        filled = filling_goes_on w.filled l (e ∙ ap digit (value_here t at k));
-        digits = digits_step good (length d₀) k t at (omega (arith, w.filled.long)) h ∙ w.digits;
+        filled = filling_goes_on w.filled l (e ∙ ap digit (value_here t k));
+        digits = digits_step good (length d₀) k t (omega (arith, w.filled.long)) h ∙ w.digits;
       }
 
-  done : length d ≤ k → Valued (length d₀) (drop at t) d good
-  done l = record { values = filling_ends w.filled l; digits = digits_end good (length d₀) k (drop k (drop at t)) (omega (arith, w.filled.long)) ∙ w.digits }
+  done : length d ≤ k → Valued (length d₀) t d good
+  done l = record { values = filling_ends w.filled l; digits = digits_end good (length d₀) k (drop k t) (omega (arith, w.filled.long)) ∙ w.digits }
 
 pub loop-k-preserved : goal.loop-k-preserved
 loop-k-preserved c =

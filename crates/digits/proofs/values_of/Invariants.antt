@@ -8,10 +8,10 @@ use Rattle.digits.specs.Steps.Scan.{are_digits, value_at}
 use Rattle.digits.proofs.DecodeLaws.{Filling}
 use Rattle.digits.proofs.values_of.Given as goal
 
-pub record Valuing (t : List ℕ) (at : ℕ) (d₀ d : List ℕ) (good : Bool) (k : ℕ) : Type 0 where
-  pub filled : Filling value_at 1 (drop at t) d₀ d k
-  pub digits : (good && are_digits (length d₀ - k) (drop k (drop at t))) ≡ are_digits (length d₀) (drop at t)
+pub record Valuing (t d₀ d : List ℕ) (good : Bool) (k : ℕ) : Type 0 where
+  pub filled : Filling value_at 1 t d₀ d k
+  pub digits : (good && are_digits (length d₀ - k) (drop k t)) ≡ are_digits (length d₀) t
 
 abbrev pub invariant-loop-k : goal.invariant-loop-k
 invariant-loop-k l =
-    Valuing l.text l.at l.initial.values l.values l.good l.k
+    Valuing l.text l.initial.values l.values l.good l.k

@@ -2,24 +2,24 @@
 use Prim.Native.Nat.{ℕ}
 use mathlib.Core.List.{List}
 use mathlib.Core.Path.{◌≡◌, sym, ap, ◌∙◌}
-use lib.ListN.{length, drop}
+use lib.ListN.{length}
 use Rattle.refusals.specs.declared.Refusal.TheVariants.{NotDigits, WrongCheck, WrongFrame}
 use Rattle.frames.proofs.FrameLaws.{empty_fault, check_fault, size_fault}
 use Rattle.digits.specs.declared.Scanned.{Scanned}
 use Rattle.digits.specs.Digits.{line_of}
 use Rattle.digits.proofs.DigitLaws.{LineScanned, scan_tells, scan_breaks}
-use Rattle.text.specs.Steps.Lines.{bytes_at, LineFault}
+use Rattle.text.specs.Steps.Lines.{line_bytes, LineFault}
 use Rattle.text.proofs.read.fault_of.Goals as goal
 
-no_bytes : {t : List ℕ} {at : ℕ} → length (bytes_at t at) ≡ 0 → LineFault t at NotDigits
+no_bytes : {t : List ℕ} → length (line_bytes t) ≡ 0 → LineFault t NotDigits
 no_bytes z = record { answer = λ kind size h. empty_fault kind size 0 _ z }
 
-module _ {t : List ℕ} {at : ℕ} {scan : Scanned} (s : LineScanned scan (line_of (drop at t))) (z : scan.count ≡ 0 → ⊥) where
-  wrong_check : (scan.sum ≡ 0 → ⊥) → LineFault t at WrongCheck
+module _ {t : List ℕ} {scan : Scanned} (s : LineScanned scan (line_of t)) (z : scan.count ≡ 0 → ⊥) where
+  wrong_check : (scan.sum ≡ 0 → ⊥) → LineFault t WrongCheck
   wrong_check y =
       record { answer = λ kind size h. check_fault kind size 0 _ (λ q. z (sym s.count_is ∙ q)) (λ q. y (sym s.sum_is ∙ q)) }
 
-  wrong_length : scan.sum ≡ 0 → LineFault t at WrongFrame
+  wrong_length : scan.sum ≡ 0 → LineFault t WrongFrame
   wrong_length y = record { answer = λ kind size h. size_fault kind size 0 _ (λ q. z (sym s.count_is ∙ q)) (s.sum_is ∙ y) h }
 
 pub returns-in_default : goal.returns-in_default

@@ -3,7 +3,7 @@
 use Prim.Native.Nat.{ℕ}
 use mathlib.Core.Bool.{true, false, ◌&&◌, and-false}
 use mathlib.Core.List.{List}
-use mathlib.Core.Path.{◌≡◌, refl, sym, ◌∙◌, subst}
+use mathlib.Core.Path.{◌≡◌, sym, ◌∙◌, subst}
 use native.Mathlib.Omega.{arith}
 use lib.Dec.{ltb}
 use lib.ListN.{length}
@@ -28,25 +28,25 @@ use Rattle.text.proofs.read.judge_frame.Goals as goal
 long : (e : ℕ) (f : List ℕ) → framed 2 (frame_bytes e) f 0 ≡ 0 → length f ≡ frame_bytes e
 long e f w = (framed_has 2 (frame_bytes e) f 0 w).long
 
-module _ {f : List ℕ} {next : ℕ} {head : Head} {s : ℕ} {d : List ℕ} (w : framed 2 (frame_bytes head.edition) f 0 ≡ 0) where
-  beyond : ltb s head.segments ≡ false → SegmentJudged f next head s d d (Err WrongCount)
+module _ {f : List ℕ} {head : Head} {s : ℕ} {d : List ℕ} (w : framed 2 (frame_bytes head.edition) f 0 ≡ 0) where
+  beyond : ltb s head.segments ≡ false → SegmentJudged f head s d d (Err WrongCount)
   beyond m = judged_faulty WrongCount (rw m (beyond_fault head.edition head.nodes f w (free_in d f)))
 
   wrong_field : ltb s head.segments ≡ true → (ends_ok head.nodes f && street_ok head.edition f) ≡ false
-      → SegmentJudged f next head s d d (Err WrongField)
+      → SegmentJudged f head s d d (Err WrongField)
   wrong_field m o = judged_faulty WrongField (rw m (field_fault head.edition head.nodes f w (free_in d f) o))
 
   module _ (m : ltb s head.segments ≡ true) (o : (ends_ok head.nodes f && street_ok head.edition f) ≡ true) where
-    leg_taken : {d' : List ℕ} → Claimed f s d d' false → SegmentJudged f next head s d d' (Err LegTaken)
+    leg_taken : {d' : List ℕ} → Claimed f s d d' false → SegmentJudged f head s d d' (Err LegTaken)
     leg_taken {d'} h =
         let g : d' ≡ d = h.index ∙ rw (sym h.answer) in
-        subst (λ (x : List ℕ). SegmentJudged f next head s d x (Err LegTaken)) (sym g)
+        subst (λ (x : List ℕ). SegmentJudged f head s d x (Err LegTaken)) (sym g)
         (judged_faulty LegTaken (rw (m, sym h.answer) (leg_fault head.edition head.nodes f w o)))
 
-    faultless : {d' : List ℕ} → Claimed f s d d' true → SegmentJudged f next head s d d' (Ok next)
+    faultless : {d' : List ℕ} → Claimed f s d d' true → SegmentJudged f head s d d' (Ok tt)
     faultless h =
         let z : fault_after head s d f ≡ 0 = rw (m, sym h.answer) (no_fault head.edition head.nodes f w o) in
-        record { answer = (z, refl); index = h.index ∙ rw (z, sym h.answer) }
+        record { answer = z; index = h.index ∙ rw (z, sym h.answer) }
 
 pub returns-then-head-s : goal.returns-then-head-s
 returns-then-head-s c =

@@ -1,7 +1,7 @@
 -- A faulty line has its fault whatever is tested later; a line that was read as a frame is judged as that frame.
 use Prim.Native.Nat.{ℕ}
 use mathlib.Core.List.{List}
-use mathlib.Core.Path.{◌≡◌, subst₂}
+use mathlib.Core.Path.{◌≡◌, subst}
 use native.Mathlib.Omega.{arith}
 use lib.ListN.{length}
 use Rattle.refusals.specs.declared.Refusal.{Refusal}
@@ -10,30 +10,30 @@ use Rattle.frames.specs.Edition.{frame_bytes}
 use Rattle.frames.proofs.EditionLaws.{frame_least, frame_most}
 use Rattle.text.specs.Steps.Lines.{FrameRead, SegmentJudged, LineJudged}
 use Rattle.text.proofs.LineLaws.{Framing, framing, faulting, judged_faulty}
-use Rattle.std.specs.Prelude.{Result, Err}
+use Rattle.std.specs.Prelude.{Result, Err, ⊤}
 use Rattle.std.proofs.lemmas.Result.{err_from_is_err_and}
 use Rattle.text.proofs.read.judge_line.Goals as goal
 
-module _ {t : List ℕ} {at : ℕ} {head : Head} {s : ℕ} {d : List ℕ} where
-  bad_line : {z f : List ℕ} {r : Result ℕ Refusal} {fault : Refusal} → length z ≡ frame_bytes head.edition → FrameRead t at 2 z f r → r ≡ Err fault
-      → LineJudged t at head s d d (Err fault)
+module _ {t : List ℕ} {head : Head} {s : ℕ} {d : List ℕ} where
+  bad_line : {z f : List ℕ} {r : Result ⊤ Refusal} {fault : Refusal} → length z ≡ frame_bytes head.edition → FrameRead t 2 z f r → r ≡ Err fault
+      → LineJudged t head s d d (Err fault)
   bad_line {fault = fault} l h g = judged_faulty fault (faulting l h g _)
 
-  by_frame : {f d' : List ℕ} {next : ℕ} {r : Result ℕ Refusal} → Framing 2 (frame_bytes head.edition) t at f next → SegmentJudged f next head s d d' r
-      → LineJudged t at head s d d' r
+  by_frame : {f d' : List ℕ} {r : Result ⊤ Refusal} → Framing 2 (frame_bytes head.edition) t f → SegmentJudged f head s d d' r
+      → LineJudged t head s d d' r
   by_frame {d' = d'} {r = r} w h =
-      subst₂ (λ (x : List ℕ) (i : ℕ). SegmentJudged x i head s d d' r) w.bytes w.next_is h
+      subst (λ (x : List ℕ). SegmentJudged x head s d d' r) w.bytes h
 
 pub frame_line-requires : goal.frame_line-requires
 frame_line-requires c =
     let e = c.args.head.edition in
-    let l = c.requires.2 in (omega arith, omega (arith, frame_least e, l), omega (arith, frame_most e, l))
+    let l = c.requires.1 in (omega (arith, frame_least e, l), omega (arith, frame_most e, l))
 
-pub returns-in_err-next : goal.returns-in_err-next
-returns-in_err-next c =
+pub returns-in_err-frame_line : goal.returns-in_err-frame_line
+returns-in_err-frame_line c =
     let p = err_from_is_err_and c.from_residual.result c.from_residual.ensures.1 in
-    rw (p.1, p.2) (bad_line c.requires.2 c.frame_line.ensures c.in_err-next.was)
+    rw (p.1, p.2) (bad_line c.requires.1 c.frame_line.ensures c.in_err-frame_line.was)
 
 pub returns : goal.returns
 returns c =
-    by_frame (framing c.requires.2 c.frame_line.ensures c.in_ok-next.was) c.judge_frame.ensures
+    by_frame (framing c.requires.1 c.frame_line.ensures c.in_ok-frame_line.was) c.judge_frame.ensures

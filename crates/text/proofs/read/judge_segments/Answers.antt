@@ -11,4 +11,4 @@ pub judge_in-requires : goal.judge_in-requires
 judge_in-requires c =
     let head = c.head_of-head in
     let few = town_nodes head.result.nodes head.result.segments (sym c.is_town.ensures ∙ c.if-is_town.true) in
-    (c.requires.0, c.requires.1, subst (λ (x : Head). x.nodes ≤ town_size) head.ensures few, omega arith)
+    (c.requires, subst (λ (x : Head). x.nodes ≤ town_size) head.ensures few, omega arith)

@@ -6,6 +6,7 @@ use native.Mathlib.Nat.{sub-zero, mul-zero, mul-le-mul_left}
 use native.Mathlib.Omega.{arith}
 use lib.ListN.{length, drop, take, length-append, length-take, length-drop, take-append-drop}
 use lib.Seq.{take_at, drop_at, drop-drop, drop-append-add}
+use Rattle.std.proofs.lemmas.List.{take_rest}
 use Rattle.lists.proofs.Lists.{times_next}
 use Rattle.digits.specs.Steps.Scan.{spelled}
 use Rattle.digits.proofs.DigitLaws.{length_spelled}
@@ -36,10 +37,11 @@ module _ {t : List ℕ} {b m : ℕ} {o₀ o : List ℕ} {s at out : ℕ} (w : Wr
       let q : (2 * b + 1) * (s + 1) ≤ (2 * b + 1) * m = mul-le-mul_left (2 * b + 1) (omega arith) in
       (omega (arith, w.room, w.out_is, times_next b s), omega (arith, w.digits, w.at_is, times_next (2 * b + 1) s))
 
-  goes_on : (n : ℕ) (ys : List ℕ) → s < m → n ≡ b → ys ≡ spelled (length (take n (drop out o))) (drop at t)
+  goes_on : (n : ℕ) (ys : List ℕ) → s < m → n ≡ b → ys ≡ spelled (length (take n (drop out o))) (take (length t - at) (drop at t))
       → Writing t b m o₀ (take out o ++ (ys ++ drop n (drop out o))) (s + 1) (at + (2 * b + 1)) (out + b)
   unfolding spelled_lines
-  goes_on n ys h n-is e =
+  goes_on n ys h n-is e₀ =
+      let e = e₀ ∙ ap (spelled (length (take n (drop out o)))) (take_rest t at) in
       let a : length (take n (drop out o)) ≡ b = length-take n (drop out o) ∙ omega (arith, length-drop out o, w.long, (rooms h).0, n-is) in
       let y : ys ≡ spelled b (drop at t) = e ∙ ap (λ (i : ℕ). spelled i (drop at t)) a in
       let l : length ys ≡ b = ap length y ∙ length_spelled b (drop at t) in
