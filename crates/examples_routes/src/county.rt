@@ -4,18 +4,20 @@ use crate::{RUNS, runs, scratch};
 use frames::ranges::head_ok;
 use frames::{fields, sizes};
 use network::corners::{COUNTY_CORNERS, free_corners};
-use network::kept::{is_kept_in_county, is_network};
+use network::kept::is_kept_in_county;
 use queue::TOP;
 use refusals::Refusal;
 use routes::{Found, LeastRoute};
 use search_labels::label_in;
 use search_relaxing::Ask;
-use search_rounds::explore::{search_in_county, unknown};
+use search_rounds::explore::unknown;
+use search_rounds::search::Search;
 use splicereel::judge::{judge_movement, judge_movement_in_county};
 use splicereel::least_stress::least_stress_in_county;
 use splicereel::route::route_in_county;
 use std::io;
-use streets::runs::{nodes_of, segments_of};
+use streets::kept::Streets;
+use text::GoodHead;
 use text::read::judge_in_county;
 
 pub fn differs(rt: &impl Print) -> io::Result<()> {
@@ -25,20 +27,19 @@ pub fn differs(rt: &impl Print) -> io::Result<()> {
 // The least length that a search in a county's memory finds; none where it finds none or the question is not in order.
 fn least_length(net: &[u8], from: usize, to: usize, tolerance: u8) -> Option<u32> {
     let mut index = free_corners::<COUNTY_CORNERS>();
-    if !is_network(net, &mut index) {
-        return None;
-    }
-    let nodes = nodes_of(net);
+    let streets = Streets::of(net, &mut index)?;
+    let nodes = streets.net.nodes();
     if from >= nodes || to >= nodes || from == to {
         return None;
     }
-    let runs = 2 * segments_of(net);
+    let runs = streets.net.runs();
     if runs > RUNS {
         return None;
     }
     let mut best = scratch();
     let mut previous = scratch();
     let ask = Ask {
+        streets,
         runs,
         least: tolerance,
         tolerance,
@@ -47,7 +48,8 @@ fn least_length(net: &[u8], from: usize, to: usize, tolerance: u8) -> Option<u32
     };
     let mut goals = unknown::<{ sizes::COUNTY }>();
     goals[to] = 1;
-    let key = search_in_county(net, &index, ask, &goals, &mut best, &mut previous)?;
+    let search = Search { ask, goals: &goals };
+    let key = search.search_in_county(&mut best, &mut previous)?;
     Some(label_in(key))
 }
 
@@ -137,7 +139,8 @@ pub fn same_reading(rt: &impl Print, text: &[u8], net: &[u8]) -> io::Result<()> 
     }
     let first = [net[0], net[1], net[2], net[3], net[4], net[5], net[6]];
     if head_ok(&first) {
-        if judge_in_county(&text[fields::HEAD_LINE..], &first) != Ok(net.len()) {
+        let head = GoodHead { bytes: first };
+        if judge_in_county(&text[fields::HEAD_LINE..], &head) != Ok(net.len()) {
             differs(rt)?;
         }
     }

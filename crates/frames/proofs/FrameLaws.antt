@@ -1,7 +1,7 @@
 -- The tests that every frame has in common, and what they leave: a number decides which test failed first, and a frame with no fault has its kind,
 -- its length and its check. Then the limits that a good head and good ends keep to.
 -- Assumes nothing.
-use Prim.Native.Nat.{ℕ, ◌+◌, ◌%◌, ◌≤◌, ◌<◌}
+use Prim.Native.Nat.{ℕ, suc, ◌+◌, ◌*◌, ◌%◌, ◌≤◌, ◌<◌}
 use mathlib.Core.Bool.{Bool, true, false, not, ◌&&◌, and-false}
 use mathlib.Core.Path.{◌≡◌, refl, sym, subst}
 use mathlib.Core.List.{List, [], ◌∷◌}
@@ -17,7 +17,7 @@ use Rattle.refusals.specs.Numbers.{number_of, unless}
 use Rattle.frames.specs.declared.Head.{Head}
 use Rattle.frames.specs.Edition.{edition_ok, most_nodes, most_segments}
 use Rattle.frames.specs.Steps.Sizes.{county_size, Limited}
-use Rattle.frames.specs.Frame.{total, check_ok, byte, is_frame, edition, nodes, segments, node_a, leg_a, node_b, leg_b}
+use Rattle.frames.specs.Frame.{number, total, check_ok, byte, is_frame, edition, nodes, segments, node_a, leg_a, node_b, leg_b}
 use Rattle.frames.specs.Decoded.{head_fields}
 use Rattle.frames.specs.Ranges.{within, head_ok, ends_ok}
 use Rattle.frames.specs.Faults.{framed}
@@ -32,6 +32,11 @@ total_step f i h = rw (drop_one f i h)
 pub total_none : (f : List ℕ) (i : ℕ) → length f ≤ i → total (drop i f) ≡ 0
 unfolding total
 total_none f i h = rw (drop_of_length-le f {i = i} h)
+
+-- ---- numbers of two bytes and more: one byte more is one step of the definition
+pub number_more : (f : List ℕ) (i more : ℕ) → number (2 + (more + 1)) f i ≡ number (2 + more) f i * 256 + byte f (i + (2 + more))
+unfolding number
+number_more f i more = let one : 2 + (more + 1) ≡ suc (2 + more) = omega arith in rw one refl
 
 -- ---- which test of a frame fails first
 -- the numbers of its three tests, by their answers

@@ -3,4 +3,3 @@ pub mod RangeLaws
 pub mod FrameLaws
 pub mod FaultLaws
 pub mod TownLaws
-pub mod DecodedLaws

@@ -15,6 +15,7 @@ pub const MOST_KEPT: usize = fields::HEAD_BYTES + SEGMENT_BYTES * 1000;
 pub const SEGMENT_BYTES: usize = 30;
 
 // Whether the edition exists.
+#[tactic(auto, unfolding(crate::specs::Edition::edition_ok))]
 pub fn edition_ok(e: u8) -> bool
     ensures { result ≡ edition_ok e }
 {
@@ -22,6 +23,7 @@ pub fn edition_ok(e: u8) -> bool
 }
 
 // The most nodes that a head may have.
+#[tactic(auto, unfolding(crate::specs::Edition::most_nodes))]
 pub fn most_nodes(e: u8) -> usize
     ensures { result ≡ most_nodes e }
 {
@@ -29,6 +31,7 @@ pub fn most_nodes(e: u8) -> usize
 }
 
 // The most segments that a head may have.
+#[tactic(auto, unfolding(crate::specs::Edition::most_segments))]
 pub fn most_segments(e: u8) -> usize
     ensures { result ≡ most_segments e }
 {
@@ -36,6 +39,7 @@ pub fn most_segments(e: u8) -> usize
 }
 
 // The bytes that a segment's length has beyond two: what comes after it in the frame stands that much further on.
+#[tactic(auto, unfolding(crate::specs::Edition::extra, crate::specs::Edition::frame_bytes))]
 pub fn extra_of(e: u8) -> usize
     ensures { Extra e result }
 {
@@ -50,6 +54,7 @@ pub fn frame_bytes(e: u8) -> usize
 }
 
 // The longest length of a segment.
+#[tactic(auto, unfolding(crate::specs::Edition::most_feet))]
 pub fn most_feet(e: u8) -> usize
     ensures { result ≡ most_feet e }
 {
@@ -57,6 +62,7 @@ pub fn most_feet(e: u8) -> usize
 }
 
 // Marks that are a sum of the edition's.
+#[tactic(auto, unfolding(crate::specs::Edition::marks_ok))]
 pub fn marks_ok(e: u8, marks: u8) -> bool
     ensures { result ≡ marks_ok e marks }
 {
@@ -64,6 +70,7 @@ pub fn marks_ok(e: u8, marks: u8) -> bool
 }
 
 // Controls that have lanes and speed 0.
+#[tactic(auto, unfolding(crate::specs::Edition::crosses_nothing))]
 pub fn crosses_nothing(e: u8, control: u8) -> bool
     ensures { result ≡ crosses_nothing e control }
 {

@@ -23,21 +23,8 @@ pub fn word_at(f: &[u8], i: usize) -> usize
     usize::from(u16::from_be_bytes([f[i], f[i + 1]]))
 }
 
-// A segment's length in feet.
-pub fn feet_of(f: &[u8], e: u8) -> usize
-    requires { frame_bytes e ≤ length f.now }
-    ensures { (result ≡ feet e f.now) × (result < 4294967296) }
-{
-    let start = fields::FEET + fields::FEET_BYTES;
-    let end = start + extra_of(e);
-    let mut feet = word_at(f, fields::FEET);
-    for byte in &f[start..end] {
-        feet = feet * 256 + usize::from(*byte);
-    }
-    feet
-}
-
 // The sum of a frame's bytes modulo 256, which a right check makes 0.
+#[tactic(auto, using(crate::proofs::FrameLaws::total_step, crate::proofs::FrameLaws::total_none))]
 pub fn sum_of(f: &[u8]) -> usize
     ensures { result ≡ total f.now % 256 }
 {
@@ -49,9 +36,34 @@ pub fn sum_of(f: &[u8]) -> usize
 }
 
 // Bytes of a frame's length are a frame of this kind.
+#[tactic(auto, using(crate::proofs::FrameLaws::check_and_kind))]
 pub fn is_framed(f: &[u8], kind: u8) -> bool
     requires { 0 < length f.now }
     ensures { result ≡ eqb (framed kind (length f.now) f.now 0) 0 }
 {
     (sum_of(f) == 0) & (f[fields::KIND] == kind)
+}
+
+// A segment's frame, of an edition: what stands in it is told by its methods, here and in `decoded` and `ranges`.
+#[derive(Clone, Copy)]
+pub struct Frame<'a> {
+    pub bytes: &'a [u8],
+    pub edition: u8,
+    pub ghost whole: { frame_bytes edition ≤ length bytes.now },
+}
+
+impl Frame<'_> {
+    // The segment's length in feet.
+    #[tactic(auto, using(crate::proofs::FrameLaws::number_more), unfolding(crate::specs::Frame::feet, crate::specs::Frame::number, crate::specs::Edition::length_bytes))]
+    pub fn feet(&self) -> usize
+        ensures { (result ≡ feet self.now.edition self.now.bytes.now) × (result < 4294967296) }
+    {
+        let start = fields::FEET + fields::FEET_BYTES;
+        let end = start + extra_of(self.edition);
+        let mut feet = word_at(self.bytes, fields::FEET);
+        for byte in &self.bytes[start..end] {
+            feet = feet * 256 + usize::from(*byte);
+        }
+        feet
+    }
 }

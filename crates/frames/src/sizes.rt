@@ -12,6 +12,7 @@ pub const COUNTY: usize = 8000;
 pub const MOST_BYTES: usize = 32;
 
 // So many nodes and segments need no more memory than a town's.
+#[tactic(auto, unfolding(crate::specs::Steps::Sizes::is_town))]
 pub fn is_town(nodes: usize, segments: usize) -> bool
     ensures { result ≡ is_town nodes segments }
 {

@@ -1,8 +1,7 @@
 // What program levels prints of a text.
-ghost use Rattle.std.specs.Prelude.{◌≡◌, true, [], ◌++◌, ◌+◌, ◌≤◌, length};
-ghost use Rattle.network.specs.Network.{segments_of, is_network};
+ghost use Rattle.std.specs.Prelude.{◌≡◌, [], ◌++◌, ◌+◌, ◌≤◌, ◌<◌};
+ghost use Rattle.network.specs.Network.{segments_of};
 ghost use Rattle.refusals.specs.Numbers.{number_of};
-ghost use Rattle.streets.specs.Steps.Places.{SegmentOf};
 ghost use Rattle.arrayvec.specs.ArrayString.{array_string_len};
 ghost use Rattle.levels.specs.Levels.{level_line, level_lines, refused_line, levels_room, levels_of};
 
@@ -10,27 +9,27 @@ use frames::edition;
 use printing::{Page, put_field};
 use refusals::Refusal;
 use splicereel::read::read;
-use streets::runs::{segment_grade, segments_of};
+use streets::kept::Network;
 use text::Refused;
 
 // One line: a segment's number, level and measure.
-fn put_level(net: &[u8], segment: usize, page: &mut Page)
-    requires { SegmentOf net.now segment × (array_string_len page.old + 63 ≤ 65536) }
-    ensures text { page.new.bytes ≡ page.old.bytes ++ level_line net.now segment }
+fn put_level(net: &Network, segment: usize, page: &mut Page)
+    requires { (segment < segments_of net.now.bytes.now) × (array_string_len page.old + 63 ≤ 65536) }
+    ensures text { page.new.bytes ≡ page.old.bytes ++ level_line net.now.bytes.now segment }
     ensures len { array_string_len page.new ≤ array_string_len page.old + 63 }
 {
-    let grade = segment_grade(net, segment);
+    let grade = net.segment_grade(segment);
     put_field(segment, ' ', page);
     put_field(usize::from(grade.level), ' ', page);
     put_field(usize::from(grade.measure), '\n', page);
 }
 
 // A line for each segment of a network.
-fn put_levels(net: &[u8], page: &mut Page)
-    requires { (is_network net.now ≡ true) × (page.old.bytes ≡ []) }
-    ensures { page.new.bytes ≡ level_lines net.now 0 (segments_of net.now) }
+fn put_levels(net: &Network, page: &mut Page)
+    requires { page.old.bytes ≡ [] }
+    ensures { page.new.bytes ≡ level_lines net.now.bytes.now 0 (segments_of net.now.bytes.now) }
 {
-    for segment in 0..segments_of(net) {
+    for segment in 0..net.segments() {
         put_level(net, segment, page);
     }
 }
@@ -52,7 +51,12 @@ pub fn levels(text: &[u8]) -> Page
     let mut page = Page::new();
     match read(text, &mut net) {
         Err(Refused { refusal, line }) => put_refusal(refusal, line, &mut page),
-        Ok(count) => put_levels(&net[..count], &mut page),
+        Ok(count) => {
+            let net = Network {
+                bytes: &net[..count],
+            };
+            put_levels(&net, &mut page);
+        }
     }
     page
 }

@@ -3,7 +3,7 @@
 -- Assumes nothing.
 use Prim.Native.Nat.{ℕ}
 use mathlib.Core.Bool.{Bool, true, false, ◌&&◌}
-use mathlib.Core.Path.{◌≡◌, refl, ◌∙◌}
+use mathlib.Core.Path.{◌≡◌, refl, ap, ◌∙◌}
 use mathlib.Core.List.{List}
 use native.Mathlib.Omega.{arith}
 use lib.Dec.{eqb}
@@ -14,7 +14,7 @@ use Rattle.frames.specs.Ranges.{ends_ok, street_ok}
 use Rattle.frames.specs.Faults.{framed}
 use Rattle.frames.specs.Follows.{SegmentFollows}
 use Rattle.frames.proofs.EditionLaws.{frame_least}
-use Rattle.frames.proofs.FrameLaws.{Framed, framed_has, framed_good}
+use Rattle.frames.proofs.FrameLaws.{Framed, framed_has, framed_good, framed_and}
 use Rattle.frames.proofs.FaultLaws.{framed_is}
 use Rattle.network.specs.Legs.{legs_free}
 use Rattle.network.specs.Faults.{segment_tests, line_fault, segment_fault}
@@ -39,6 +39,12 @@ pub unless_and : (a b : Bool) → eqb (segment_tests true a b) 0 ≡ (a && b)
 unless_and false b = refl
 unless_and true false = refl
 unless_and true true = refl
+
+-- a segment that S allows has no fault exactly where each test holds
+pub line_and : (e n : ℕ) (free : Bool) (f : List ℕ)
+    → eqb (line_fault e n true free f) 0 ≡ (eqb (framed 2 (frame_bytes e) f 0) 0 && (ends_ok n f && street_ok e f && free))
+line_and e n free f =
+    framed_and 2 (frame_bytes e) _ f ∙ ap (λ (x : Bool). eqb (framed 2 (frame_bytes e) f 0) 0 && x) (unless_and (ends_ok n f && street_ok e f) free)
 
 pub record Faultless (e n : ℕ) (more : Bool) (taken f : List ℕ) : Type 0 where
   pub follows : SegmentFollows e n f

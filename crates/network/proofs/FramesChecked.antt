@@ -19,7 +19,7 @@ use Rattle.frames.specs.Decoded.{head_fields}
 use Rattle.frames.specs.Ranges.{head_ok}
 use Rattle.frames.specs.Faults.{framed}
 use Rattle.frames.specs.Steps.Sizes.{Limited}
-use Rattle.frames.proofs.FrameLaws.{framed_has}
+use Rattle.frames.proofs.FrameLaws.{framed_has, limited}
 use Rattle.frames.proofs.FaultLaws.{head_and}
 use Rattle.network.specs.Legs.{taking}
 use Rattle.network.specs.Faults.{segment_fault}
@@ -145,3 +145,6 @@ module _ {net d : List ℕ} where
     by_frames {head} {r} e l g =
         let h : FramesChecked (head_fields (head_of net)) (drop 7 net) d r = subst (λ (x : Head). FramesChecked x (drop 7 net) d r) e g in
         record { answer = rw (head_and (head_of net), good, eq-eqb (length net) (kept_bytes (head_of net)) l) h.answer; index = h.index }
+
+-- all that decides before the frames do
+pub ruleset whole_test = (too_short, no_head, wrong_length, kept_is, limited)

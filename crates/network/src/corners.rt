@@ -29,6 +29,7 @@ pub fn run_leaving(entry: u16) -> Option<usize>
 }
 
 // Takes both legs of segment s where they are free and not one leg; else it leaves the index as it was.
+#[tactic(auto, unfolding(crate::specs::Steps::Checks::free_in))]
 pub fn claim_legs(f: &[u8], s: usize, index: &mut [u16]) -> bool
     requires { Claimable f.now s index.old }
     ensures { Claimed f.now s index.old index.new result }

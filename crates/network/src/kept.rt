@@ -10,12 +10,13 @@ ghost use Rattle.network.specs.Steps.Checks.{HeadFits, FewNodes, Awaits, FramesC
 use crate::corners::{COUNTY_CORNERS, TOWN_CORNERS, claim_legs, free_corners};
 use frames::decoded::head_of;
 use frames::edition::frame_bytes;
-use frames::frame::is_framed;
-use frames::ranges::{ends_ok, head_ok, street_ok};
+use frames::frame::{Frame, is_framed};
+use frames::ranges::{ends_ok, head_ok};
 use frames::sizes::is_town;
 use frames::{Head, fields};
 
 // The bytes of a network with this head.
+#[tactic(auto, using(frames::proofs::EditionLaws::frames_few))]
 pub fn kept_bytes(head: Head) -> usize
     requires { Limited head }
     ensures { result ≡ head_bytes + frame_bytes head.edition * head.segments }
@@ -24,6 +25,7 @@ pub fn kept_bytes(head: Head) -> usize
 }
 
 // The frame of segment s follows the rules, and its legs were free; then it takes them.
+#[tactic(auto, using(crate::proofs::FaultLaws::line_and, crate::proofs::CornerLaws::corners_few, frames::proofs::EditionLaws::frame_least))]
 fn segment_ok(f: &[u8], head: Head, s: usize, index: &mut [u16]) -> bool
     requires { (length f.now ≡ frame_bytes head.edition) × (s < head.segments) × HeadFits head index.old }
     ensures { SegmentChecked f.now head s index.old index.new result }
@@ -31,7 +33,11 @@ fn segment_ok(f: &[u8], head: Head, s: usize, index: &mut [u16]) -> bool
     if !is_framed(f, fields::SEGMENT_KIND) {
         return false;
     }
-    if !street_ok(f, head.edition) {
+    let frame = Frame {
+        bytes: f,
+        edition: head.edition,
+    };
+    if !frame.street_ok() {
         return false;
     }
     if !ends_ok(f, head.nodes) {
@@ -56,6 +62,7 @@ fn frames_ok(net: &[u8], head: Head, index: &mut [u16]) -> bool
 }
 
 // Whether the bytes are a network that Read could keep; then the index has all its corners.
+#[tactic(auto, using(crate::proofs::FramesChecked::whole_test))]
 pub fn is_network(net: &[u8], index: &mut [u16]) -> bool
     requires { Awaits net.now index.old }
     ensures { Checked net.now index.new result }
@@ -75,6 +82,7 @@ pub fn is_network(net: &[u8], index: &mut [u16]) -> bool
 }
 
 // Whether the bytes need a county's memory, by the counts that their head says.
+#[tactic(auto, unfolding(crate::specs::Steps::Checks::is_county))]
 pub fn is_county(net: &[u8]) -> bool
     ensures { result ≡ is_county net.now }
 {
@@ -90,6 +98,7 @@ pub fn is_county(net: &[u8]) -> bool
 }
 
 // Whether the bytes are a network that Read could keep, tested in memory of its own for so many corners.
+#[tactic(auto, using(crate::proofs::SizeLaws::few_await))]
 fn is_kept_in<const CORNERS: usize>(net: &[u8]) -> bool
     requires { (CORNERS ≤ 8 * county_size) × FewNodes (CORNERS / 8) net.now }
     ensures { result ≡ is_network net.now }
@@ -100,6 +109,7 @@ fn is_kept_in<const CORNERS: usize>(net: &[u8]) -> bool
 
 // The same in a county's memory. It is never inlined, so that a town takes no stack for a county.
 #[inline(never)]
+#[tactic(auto, using(crate::proofs::SizeLaws::county_heads))]
 pub fn is_kept_in_county(net: &[u8]) -> bool
     ensures { result ≡ is_network net.now }
 {
@@ -107,6 +117,7 @@ pub fn is_kept_in_county(net: &[u8]) -> bool
 }
 
 // The same in a town's memory, where the network is no larger.
+#[tactic(auto, using(crate::proofs::SizeLaws::town_heads))]
 pub fn is_kept(net: &[u8]) -> bool
     ensures { result ≡ is_network net.now }
 {

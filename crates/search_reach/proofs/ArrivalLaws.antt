@@ -20,7 +20,7 @@ use Rattle.streets.specs.Steps.Places.{RunOf}
 use Rattle.streets.specs.Steps.Leaving.{opposite, Entry}
 use Rattle.streets.proofs.LeavingLaws.{entry_leaves, leaving_entry, opposed}
 use Rattle.search_relaxing.specs.declared.Ask.{Ask}
-use Rattle.search_relaxing.specs.Steps.Counted.{Ready}
+use Rattle.search_relaxing.specs.Steps.Counted.{network_in, index_in}
 use Rattle.search_reach.specs.Steps.Arrivals.{label_behind, least_behind, least_arrival, LookedAt}
 
 -- ---- the least of the labels
@@ -60,29 +60,35 @@ label_whose net best (suc r) E e h =
     let L = E.leaving r (sym (add-one r)) in
     (opposite r, omega (arith, L.inside), (opposed net r).ends ∙ L.from, e)
 
-module _ {net index : List ℕ} {ask : Ask} (Y : Ready net index ask) where
+module _ (ask : Ask) where
+  abbrev net : List ℕ
+  net = network_in ask
+
+  abbrev index : List ℕ
+  index = index_in ask
+
   -- every node has its eight entries, and the runs that arrive by them their labels
   pub looked_at : {best : List ℕ} → ask.runs ≤ length best → (node : ℕ) → node < nodes_of net → LookedAt index best node
   looked_at fits node l =
       record {
-        room = omega (arith, Y.indexed.room);
+        room = omega (arith, ask.streets.indexed.room);
         each = λ leg low.
             record {
               behind = λ r e.
-                  omega (arith, ((entry_leaves net Y.counted.network Y.indexed l low).leaving r e).inside, Y.counted.count);
+                  omega (arith, ((entry_leaves net ask.streets.net.kept ask.streets.indexed l low).leaving r e).inside, ask.counted);
             };
       }
 
   -- what the code reads is the least arrival
   pub least_arrival_lem : (best : List ℕ) (node : ℕ) → node < nodes_of net → LeastArrival (bicycle net) (at best) node (least_arrival index best node)
   least_arrival_lem best node l =
-      let is = Y.counted.network in
+      let is = ask.streets.net.kept in
       record {
         least = λ q i e.
             let there : RunOf net (opposite q) = record { network = is; inside = omega arith } in
-            let s = leaving_entry net is Y.indexed there node ((opposed net q).starts ∙ e) in
+            let s = leaving_entry net is ask.streets.indexed there node ((opposed net q).starts ∙ e) in
             omega (arith, least_low index best (node * 8) 8 s.0 s.1, label_of best q s.2);
         whose = λ h.
             let s = least_some index best (node * 8) 8 h in
-            label_whose net best (at index (node * 8 + s.0)) (entry_leaves net is Y.indexed l s.1) s.2 h;
+            label_whose net best (at index (node * 8 + s.0)) (entry_leaves net is ask.streets.indexed l s.1) s.2 h;
       }

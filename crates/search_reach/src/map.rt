@@ -4,14 +4,14 @@ ghost use Rattle.network.specs.Network.{nodes_of};
 ghost use Rattle.routes.specs.Reach.{MapWritten};
 ghost use Rattle.streets.specs.Bicycle.{bicycle};
 ghost use Rattle.search_labels.specs.Steps.Labels.{Room};
+ghost use Rattle.search_relaxing.specs.Steps.Counted.{network_in};
 ghost use Rattle.search_routes.specs.Steps.Answered.{Unmarked};
 ghost use Rattle.search_reach.specs.Steps.Map.{clamped, ListRoom, AskedAt, Listable, NodeListed, Nodes, NodesListed};
 
 use crate::arrivals::length_to;
 use search_labels::{NONE, key_of};
 use search_relaxing::Ask;
-use search_rounds::explore::explore;
-use streets::runs::nodes_of;
+use search_rounds::search::Search;
 
 // A greatest length as a label: no route is as long as NONE.
 fn clamp(greatest: usize) -> u32
@@ -44,6 +44,7 @@ fn list_node(
 }
 
 // Writes the entries of all nodes, in rising order, and gives their number.
+#[tactic(auto, using(crate::proofs::Listing::listing_none, crate::proofs::Listing::listing_more))]
 fn list_nodes(
     index: &[u16],
     best: &[u32],
@@ -64,25 +65,39 @@ fn list_nodes(
 
 // Lists the nodes within the tolerance and the greatest length, and gives the number of entries. It is the exploration with no goal, up to that length.
 pub fn reach(
-    net: &[u8],
-    index: &[u16],
-    ask: Ask,
+    ask: &Ask,
     greatest: usize,
     goals: &[u8],
     best: &mut [u32],
     previous: &mut [u32],
     list: &mut [u32],
 ) -> usize
-    requires { AskedAt net.now index.now ask × Room ask.runs best.old previous.old × Unmarked net.now goals.now
-        × ListRoom net.now list.old }
-    ensures { MapWritten (bicycle net.now) (nodes_of net.now) ask.tolerance ask.from greatest
+    requires { AskedAt ask.now × Room ask.now.runs best.old previous.old × Unmarked ask.now goals.now
+        × ListRoom ask.now list.old }
+    ensures { MapWritten (bicycle (network_in ask.now)) (nodes_of (network_in ask.now)) ask.now.tolerance ask.now.from greatest
         list.old list.new result }
 {
     let farthest = clamp(greatest);
     let limited = Ask {
+        streets: ask.streets,
+        runs: ask.runs,
+        least: ask.least,
+        tolerance: ask.tolerance,
+        from: ask.from,
         limit: key_of(farthest, 0),
-        ..ask
     };
-    explore(net, index, limited, goals, best, previous);
-    list_nodes(index, best, ask.from, farthest, nodes_of(net), list)
+    let search = Search {
+        ask: limited,
+        goals,
+    };
+    search.explore(best, previous);
+    let streets = ask.streets;
+    list_nodes(
+        streets.index,
+        best,
+        ask.from,
+        farthest,
+        streets.net.nodes(),
+        list,
+    )
 }

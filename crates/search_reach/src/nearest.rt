@@ -4,6 +4,7 @@ ghost use Rattle.std.specs.Prelude.{◌≡◌};
 ghost use Rattle.network.specs.Network.{nodes_of};
 ghost use Rattle.streets.specs.Bicycle.{bicycle};
 ghost use Rattle.search_labels.specs.Steps.Labels.{Room};
+ghost use Rattle.search_relaxing.specs.Steps.Counted.{network_in};
 ghost use Rattle.search_reach.specs.Steps.Map.{AskedAt};
 ghost use Rattle.search_reach.specs.Steps.Nearest.{is_far, Marks, Markable, AllMarkable, FirstOf, Nearby};
 
@@ -11,10 +12,10 @@ use crate::arrivals::length_to;
 use routes::Entry;
 use search_labels::label_in;
 use search_relaxing::Ask;
-use search_rounds::explore::explore;
-use streets::runs::nodes_of;
+use search_rounds::search::Search;
 
 // The node is not marked, or farther than the length.
+#[tactic(auto, unfolding(crate::specs::Steps::Nearest::is_far, routes::specs::Reach::is_marked))]
 fn is_far(index: &[u16], best: &[u32], from: usize, marks: &[u8], length: u32, node: usize) -> bool
     requires { Markable index.now best.now marks.now node }
     ensures { result ≡ is_far index.now best.now from marks.now length node }
@@ -43,16 +44,9 @@ fn first_near(
 }
 
 // The nearest marked node within the tolerance, with its least length. A start that is marked is its own nearest.
-pub fn nearest(
-    net: &[u8],
-    index: &[u16],
-    ask: Ask,
-    marks: &[u8],
-    best: &mut [u32],
-    previous: &mut [u32],
-) -> Option<Entry>
-    requires { AskedAt net.now index.now ask × Room ask.runs best.old previous.old × Marks net.now marks.now }
-    ensures { Nearby (bicycle net.now) (nodes_of net.now) ask.tolerance ask.from marks.now result }
+pub fn nearest(ask: &Ask, marks: &[u8], best: &mut [u32], previous: &mut [u32]) -> Option<Entry>
+    requires { AskedAt ask.now × Room ask.now.runs best.old previous.old × Marks ask.now marks.now }
+    ensures { Nearby (bicycle (network_in ask.now)) (nodes_of (network_in ask.now)) ask.now.tolerance ask.now.from marks.now result }
 {
     let from = ask.from;
     if marks[from] != 0 {
@@ -61,8 +55,20 @@ pub fn nearest(
             length: 0,
         });
     }
-    let met = explore(net, index, ask, marks, best, previous)?;
+    let search = Search {
+        ask: *ask,
+        goals: marks,
+    };
+    let met = search.explore(best, previous)?;
     let length = label_in(met.key);
-    let node = first_near(index, best, from, marks, length, nodes_of(net))?;
+    let streets = ask.streets;
+    let node = first_near(
+        streets.index,
+        best,
+        from,
+        marks,
+        length,
+        streets.net.nodes(),
+    )?;
     Some(Entry { node, length })
 }

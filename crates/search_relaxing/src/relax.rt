@@ -8,8 +8,7 @@ ghost use Rattle.routes.specs.Steps.Labels.{unlabelled};
 ghost use Rattle.frames.specs.Steps.Sizes.{county_feet};
 ghost use Rattle.network.specs.Network.{nodes_of};
 ghost use Rattle.streets.specs.Runs.{start, feet_of};
-ghost use Rattle.streets.specs.Steps.Places.{RunOf};
-ghost use Rattle.search_relaxing.specs.Steps.Counted.{Counted, Ready};
+ghost use Rattle.search_relaxing.specs.Steps.Counted.{network_in};
 ghost use Rattle.search_relaxing.specs.Steps.Unfound.{nothing, to_find, note_of, Noteable};
 ghost use Rattle.search_relaxing.specs.Steps.Choice.{right_leg, every_leg, Reaches, Chooses, Relaxable, Visitable, Visited, Offerable, LegRelaxed, EdgesRelaxed};
 ghost use Rattle.search_relaxing.specs.Steps.Choice.{LabelRoom, BackLabelled, Spreads};
@@ -19,8 +18,6 @@ use crate::usable::is_usable;
 use network::corners::run_leaving;
 use search_labels::{NONE, write_label};
 use streets::exits::right_hand_exit;
-use streets::movements::approach_of;
-use streets::runs::{feet_of, finish_of, start_of};
 
 // A node's note tells in one byte what is to find there. From NOTHING on nothing is; below it any leg may be at 0, else one may: the note is 1 + that leg.
 pub const NOTHING: u8 = 9;
@@ -97,13 +94,13 @@ fn right_leg(exit: usize, leg: usize, rest: ToFind) -> Option<Choice>
 
 // Where every movement is within the tolerance: onto the seven legs that are not the leg of arrival, or onto the one that is to find.
 #[tactic(auto, unfolding(crate::specs::Steps::Choice::every_leg))]
-fn every_leg(net: &[u8], here: Reached, rest: ToFind, unfound: &[u8]) -> Option<Choice>
-    requires { RunOf net.now here.run × (here.leg < 8) × (nodes_of net.now ≤ length unfound.now) }
-    ensures { result ≡ every_leg here.leg rest (leb nothing (at unfound.now (start net.now here.run))) }
+fn every_leg(ask: &Ask, here: Reached, rest: ToFind, unfound: &[u8]) -> Option<Choice>
+    requires { (here.run < ask.now.runs) × (here.leg < 8) × (nodes_of (network_in ask.now) ≤ length unfound.now) }
+    ensures { result ≡ every_leg here.leg rest (leb nothing (at unfound.now (start (network_in ask.now) here.run))) }
 {
     let leg = here.leg;
     match rest {
-        ToFind::Any if NOTHING <= unfound[start_of(net, here.run)] => Some(Choice {
+        ToFind::Any if NOTHING <= unfound[ask.streets.net.start_of(here.run)] => Some(Choice {
             first: leg + 1,
             count: OTHERS,
             back: true,
@@ -126,36 +123,40 @@ fn every_leg(net: &[u8], here: Reached, rest: ToFind, unfound: &[u8]) -> Option<
 }
 
 // Onto which legs the edges from a run lead that may find a run without a label; none where no edge does.
-fn choose(net: &[u8], index: &[u16], ask: Ask, here: Reached, unfound: &[u8]) -> Option<Choice>
-    requires { Ready net.now index.now ask × Reaches net.now ask here × (nodes_of net.now ≤ length unfound.now) }
-    ensures { Chooses net.now index.now ask here unfound.now result }
+fn choose(ask: &Ask, here: Reached, unfound: &[u8]) -> Option<Choice>
+    requires { Reaches ask.now here × (nodes_of (network_in ask.now) ≤ length unfound.now) }
+    ensures { Chooses ask.now here unfound.now result }
 {
     let rest = to_find(unfound[here.node]);
     if let ToFind::Nothing = rest {
         return None;
     }
-    let approach = approach_of(net, here.run);
+    let approach = ask.streets.net.approach_of(here.run);
     if approach.across <= ask.tolerance {
-        return every_leg(net, here, rest, unfound);
+        return every_leg(ask, here, rest, unfound);
     }
     if approach.turn <= ask.tolerance {
-        return right_leg(right_hand_exit(index, here.node, here.leg), here.leg, rest);
+        return right_leg(
+            right_hand_exit(ask.streets.index, here.node, here.leg),
+            here.leg,
+            rest,
+        );
     }
     None
 }
 
 // The label of a run by way of the run that was reached.
-fn label_by(net: &[u8], ask: Ask, here: Reached, run: usize) -> u32
-    requires { Counted net.now ask.runs × (run < ask.runs) × (here.label + county_feet < unlabelled) }
-    ensures { result ≡ here.label + feet_of net.now run }
+#[tactic(auto, using(crate::proofs::CountedLaws::feet_asked))]
+fn label_by(ask: &Ask, here: Reached, run: usize) -> u32
+    requires { (run < ask.now.runs) × (here.label + county_feet < unlabelled) }
+    ensures { result ≡ here.label + feet_of (network_in ask.now) run }
 {
-    here.label + (feet_of(net, run) as u32)
+    here.label + (ask.streets.net.feet_of(run) as u32)
 }
 
 // Visits a run: a usable run that has no label yet gets the one by way of the run that was reached. It is queued unless it leads where nothing is to find.
 fn visit(
-    net: &[u8],
-    ask: Ask,
+    ask: &Ask,
     here: Reached,
     run: usize,
     best: &mut [u32],
@@ -163,18 +164,18 @@ fn visit(
     tree: &mut [u64],
     unfound: &[u8],
 )
-    requires { Visitable net.now ask here run best.old previous.old tree.old unfound.now }
-    ensures { Visited net.now ask here run unfound.now best.old previous.old
+    requires { Visitable ask.now here run best.old previous.old tree.old unfound.now }
+    ensures { Visited ask.now here run unfound.now best.old previous.old
         best.new previous.new tree.new }
 {
     if best[run] < NONE {
         return;
     }
-    if !is_usable(net, ask.tolerance, run) {
+    if !is_usable(&ask.streets.net, ask.tolerance, run) {
         return;
     }
-    let label = label_by(net, ask, here, run);
-    if NOTHING <= unfound[finish_of(net, run)] {
+    let label = label_by(ask, here, run);
+    if NOTHING <= unfound[ask.streets.net.finish_of(run)] {
         best[run] = label;
         previous[run] = here.run as u32;
         return;
@@ -184,8 +185,7 @@ fn visit(
 
 // Visits the run behind an entry of the corner index, where there is one.
 fn relax_leg(
-    net: &[u8],
-    ask: Ask,
+    ask: &Ask,
     here: Reached,
     entry: u16,
     best: &mut [u32],
@@ -193,20 +193,18 @@ fn relax_leg(
     tree: &mut [u64],
     unfound: &[u8],
 )
-    requires { Offerable net.now ask here entry best.old previous.old tree.old unfound.now }
-    ensures { LegRelaxed net.now ask here entry unfound.now best.old previous.old
+    requires { Offerable ask.now here entry best.old previous.old tree.old unfound.now }
+    ensures { LegRelaxed ask.now here entry unfound.now best.old previous.old
         best.new previous.new tree.new }
 {
     if let Some(run) = run_leaving(entry) {
-        visit(net, ask, here, run, best, previous, tree, unfound);
+        visit(ask, here, run, best, previous, tree, unfound);
     }
 }
 
 // Offers the legs that were chosen, one after the other.
 fn offer(
-    net: &[u8],
-    index: &[u16],
-    ask: Ask,
+    ask: &Ask,
     here: Reached,
     choice: Choice,
     best: &mut [u32],
@@ -214,34 +212,28 @@ fn offer(
     tree: &mut [u64],
     unfound: &[u8],
 )
-    requires { Relaxable net.now index.now ask here best.old previous.old tree.old unfound.now
-        × Chooses net.now index.now ask here unfound.now (Some choice) }
-    ensures { EdgesRelaxed net.now ask here unfound.now best.old previous.old
+    requires { Relaxable ask.now here best.old previous.old tree.old unfound.now
+        × Chooses ask.now here unfound.now (Some choice) }
+    ensures { EdgesRelaxed ask.now here unfound.now best.old previous.old
         best.new previous.new tree.new }
 {
     let place = here.node * 8;
     for k in 0..choice.count {
-        let entry = index[place + (choice.first + k) % 8];
-        relax_leg(net, ask, here, entry, best, previous, tree, unfound);
+        let entry = ask.streets.index[place + (choice.first + k) % 8];
+        relax_leg(ask, here, entry, best, previous, tree, unfound);
     }
 }
 
 // Labels the way back, where it has no label, whether it may be ridden or not: nothing comes of its label, and it is never queued.
-fn label_back(
-    net: &[u8],
-    index: &[u16],
-    ask: Ask,
-    here: Reached,
-    best: &mut [u32],
-    previous: &mut [u32],
-)
-    requires { Ready net.now index.now ask × Reaches net.now ask here × LabelRoom ask here best.old previous.old }
-    ensures { BackLabelled net.now index.now here best.old previous.old
+#[tactic(auto, using(crate::proofs::UnfoundLaws::back_inside))]
+fn label_back(ask: &Ask, here: Reached, best: &mut [u32], previous: &mut [u32])
+    requires { Reaches ask.now here × LabelRoom ask.now here best.old previous.old }
+    ensures { BackLabelled ask.now here best.old previous.old
         best.new previous.new }
 {
-    if let Some(back) = run_leaving(index[here.node * 8 + here.leg]) {
+    if let Some(back) = run_leaving(ask.streets.index[here.node * 8 + here.leg]) {
         if NONE <= best[back] {
-            best[back] = label_by(net, ask, here, back);
+            best[back] = label_by(ask, here, back);
             previous[back] = here.run as u32;
         }
     }
@@ -249,25 +241,23 @@ fn label_back(
 
 // Relaxes every edge from a run, and notes what is to find at the node where it arrives.
 pub fn relax(
-    net: &[u8],
-    index: &[u16],
-    ask: Ask,
+    ask: &Ask,
     here: Reached,
     best: &mut [u32],
     previous: &mut [u32],
     tree: &mut [u64],
     unfound: &mut [u8],
 )
-    requires { Relaxable net.now index.now ask here best.old previous.old tree.old unfound.old }
-    ensures { Spreads net.now ask here best.old previous.old unfound.old
+    requires { Relaxable ask.now here best.old previous.old tree.old unfound.old }
+    ensures { Spreads ask.now here best.old previous.old unfound.old
         best.new previous.new tree.new unfound.new }
 {
-    let Some(choice) = choose(net, index, ask, here, unfound) else {
+    let Some(choice) = choose(ask, here, unfound) else {
         return;
     };
-    offer(net, index, ask, here, choice, best, previous, tree, unfound);
+    offer(ask, here, choice, best, previous, tree, unfound);
     if choice.back {
-        label_back(net, index, ask, here, best, previous);
+        label_back(ask, here, best, previous);
     }
     unfound[here.node] = note_of(choice.rest);
 }

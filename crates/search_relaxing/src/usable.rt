@@ -1,16 +1,16 @@
 // What a search at a tolerance may ride.
-ghost use Rattle.std.specs.Prelude.{◌≡◌};
-ghost use Rattle.streets.specs.Steps.Places.{RunOf};
+ghost use Rattle.std.specs.Prelude.{◌<◌, ◌≡◌};
+ghost use Rattle.streets.specs.Runs.{runs_of};
 ghost use Rattle.streets.specs.Bicycle.{bicycle};
 ghost use Rattle.search_relaxing.specs.Steps.Counted.{usable};
 
-use streets::runs::{is_open, run_level};
+use streets::kept::Network;
 
 // The run is open and not above the tolerance.
 #[tactic(auto, unfolding(crate::specs::Steps::Counted::usable))]
-pub fn is_usable(net: &[u8], tolerance: u8, run: usize) -> bool
-    requires { RunOf net.now run }
-    ensures { result ≡ usable (bicycle net.now) tolerance run }
+pub fn is_usable(net: &Network, tolerance: u8, run: usize) -> bool
+    requires { run < runs_of net.now.bytes.now }
+    ensures { result ≡ usable (bicycle net.now.bytes.now) tolerance run }
 {
-    is_open(net, run) && run_level(net, run) <= tolerance
+    net.is_open(run) && net.run_level(run) <= tolerance
 }

@@ -10,14 +10,14 @@ use Rattle.search_rounds.specs.Steps.Searches.{Stopped, NothingMet, Meets}
 
 -- the same question with a greatest tolerance one lower
 abbrev pub lower : Ask → Ask
-lower ask = record { runs = ask.runs; least = ask.least; tolerance = ask.tolerance - 1; from = ask.from; limit = ask.limit }
+lower ask = record ask { tolerance = ask.tolerance - 1 }
 
 -- what is known before the greatest tolerance is tried: those below it met nothing
-abbrev pub NoneBelow : List ℕ → Ask → List ℕ → Type 0
-NoneBelow net ask goals = ask.least < ask.tolerance → NothingMet net ask (ask.tolerance - 1) goals
+abbrev pub NoneBelow : Ask → List ℕ → Type 0
+NoneBelow ask goals = ask.least < ask.tolerance → NothingMet ask (ask.tolerance - 1) goals
 
-module _ {net : List ℕ} {ask : Ask} {goals : List ℕ} {best previous : List ℕ} where
-  pub lower_met : {met : Met} → ask.least < ask.tolerance → Meets net (lower ask) goals best previous (Some met) → Meets net ask goals best previous (Some met)
+module _ {ask : Ask} {goals : List ℕ} {best previous : List ℕ} where
+  pub lower_met : {met : Met} → ask.least < ask.tolerance → Meets (lower ask) goals best previous (Some met) → Meets ask goals best previous (Some met)
   lower_met l m =
       record {
         low = m.low;
@@ -27,9 +27,9 @@ module _ {net : List ℕ} {ask : Ask} {goals : List ℕ} {best previous : List �
         none_below = λ h. let n = m.none_below h in record { best = n.best; previous = n.previous; key = n.key; beyond = n.beyond; stop = n.stop };
       }
 
-  pub lower_nothing : Meets net (lower ask) goals best previous None → NoneBelow net ask goals
+  pub lower_nothing : Meets (lower ask) goals best previous None → NoneBelow ask goals
   lower_nothing m h = record { best = best; previous = previous; key = m.0; beyond = m.1; stop = m.2 }
 
-  pub met_here : {key : ℕ} → ask.least ≤ ask.tolerance → NoneBelow net ask goals → Stopped net ask ask.tolerance goals best previous (Some key)
-      → Meets net ask goals best previous (Some (record { key = key; tolerance = ask.tolerance }))
+  pub met_here : {key : ℕ} → ask.least ≤ ask.tolerance → NoneBelow ask goals → Stopped ask ask.tolerance goals best previous (Some key)
+      → Meets ask goals best previous (Some (record { key = key; tolerance = ask.tolerance }))
   met_here l n s = record { low = l; high = omega arith; below_limit = s.0; stop = s.1; none_below = n }

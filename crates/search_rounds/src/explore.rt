@@ -2,13 +2,12 @@
 // memory of a search, a queue and a number for each node, and the tolerances that it goes through.
 ghost use Rattle.std.specs.Prelude.{◌/◌, ◌≤◌};
 ghost use Rattle.search_labels.specs.Steps.Labels.{Room};
-ghost use Rattle.search_rounds.specs.Steps.Searches.{NoKeys, AllUnknown, Enough, Sought, Stopped, Meets};
+ghost use Rattle.search_rounds.specs.Steps.Searches.{NoKeys, AllUnknown, Enough, Stopped, Meets};
 
-use crate::search::search;
+use crate::search::Search;
 use frames::sizes;
 use frames::sizes::is_town;
 use search_relaxing::Ask;
-use streets::runs::{nodes_of, segments_of};
 
 // Two elements of the queue for each of two runs of a segment.
 const TOWN_KEYS: usize = 4 * sizes::TOWN;
@@ -37,83 +36,65 @@ pub struct Met {
     pub tolerance: u8,
 }
 
-// A search in memory of its own, for so many nodes and half as many runs as keys.
-fn search_in<const KEYS: usize, const NODES: usize>(
-    net: &[u8],
-    index: &[u16],
-    ask: Ask,
-    goals: &[u8],
-    best: &mut [u32],
-    previous: &mut [u32],
-) -> Option<u64>
-    requires { Sought net.now index.now ask goals.now × Room ask.runs best.old previous.old × Enough net.now ask.runs KEYS NODES }
-    ensures { Stopped net.now ask ask.tolerance goals.now best.new previous.new result }
-{
-    let mut tree = no_keys::<KEYS>();
-    let mut unfound = unknown::<NODES>();
-    search(
-        net,
-        index,
-        ask,
-        goals,
-        best,
-        previous,
-        &mut tree,
-        &mut unfound,
-    )
-}
-
-// The same in a county's memory, which has room for every network. It is never inlined: a town takes no stack for a county.
-#[inline(never)]
-pub fn search_in_county(
-    net: &[u8],
-    index: &[u16],
-    ask: Ask,
-    goals: &[u8],
-    best: &mut [u32],
-    previous: &mut [u32],
-) -> Option<u64>
-    requires { Sought net.now index.now ask goals.now × Room ask.runs best.old previous.old }
-    ensures { Stopped net.now ask ask.tolerance goals.now best.new previous.new result }
-{
-    search_in::<COUNTY_KEYS, { sizes::COUNTY }>(net, index, ask, goals, best, previous)
-}
-
-// The same in a town's memory where that has room for the network, else in a county's.
-fn search_at(
-    net: &[u8],
-    index: &[u16],
-    ask: Ask,
-    goals: &[u8],
-    best: &mut [u32],
-    previous: &mut [u32],
-) -> Option<u64>
-    requires { Sought net.now index.now ask goals.now × Room ask.runs best.old previous.old }
-    ensures { Stopped net.now ask ask.tolerance goals.now best.new previous.new result }
-{
-    if is_town(nodes_of(net), segments_of(net)) {
-        return search_in::<TOWN_KEYS, { sizes::TOWN }>(net, index, ask, goals, best, previous);
+impl Search<'_, '_> {
+    // The search in memory of its own, for so many nodes and half as many runs as keys.
+    fn search_in<const KEYS: usize, const NODES: usize>(
+        &self,
+        best: &mut [u32],
+        previous: &mut [u32],
+    ) -> Option<u64>
+        requires { Room self.now.ask.runs best.old previous.old × Enough self.now.ask KEYS NODES }
+        ensures { Stopped self.now.ask self.now.ask.tolerance self.now.goals.now best.new previous.new result }
+    {
+        let mut tree = no_keys::<KEYS>();
+        let mut unfound = unknown::<NODES>();
+        self.search(best, previous, &mut tree, &mut unfound)
     }
-    search_in_county(net, index, ask, goals, best, previous)
-}
 
-// Searches at the tolerances from `least` to the one that is asked, until one of them meets a goal.
-pub fn explore(
-    net: &[u8],
-    index: &[u16],
-    ask: Ask,
-    goals: &[u8],
-    best: &mut [u32],
-    previous: &mut [u32],
-) -> Option<Met>
-    requires { Sought net.now index.now ask goals.now × Room ask.runs best.old previous.old × (ask.least ≤ ask.tolerance) }
-    ensures { Meets net.now ask goals.now best.new previous.new result }
-{
-    for tolerance in ask.least..=ask.tolerance {
-        let at = Ask { tolerance, ..ask };
-        if let Some(key) = search_at(net, index, at, goals, best, previous) {
-            return Some(Met { key, tolerance });
+    // The same in a county's memory, which has room for every network. It is never inlined: a town takes no stack for a county.
+    #[inline(never)]
+    #[tactic(auto, using(network::proofs::NetworkLaws::nodes_most, network::proofs::NetworkLaws::segments_most, frames::proofs::EditionLaws::nodes_few, frames::proofs::EditionLaws::segments_few))]
+    pub fn search_in_county(&self, best: &mut [u32], previous: &mut [u32]) -> Option<u64>
+        requires { Room self.now.ask.runs best.old previous.old }
+        ensures { Stopped self.now.ask self.now.ask.tolerance self.now.goals.now best.new previous.new result }
+    {
+        self.search_in::<COUNTY_KEYS, { sizes::COUNTY }>(best, previous)
+    }
+
+    // The same at a tolerance, in a town's memory where that has room for the network, else in a county's.
+    #[tactic(auto, unfolding(frames::specs::Steps::Sizes::is_town))]
+    fn search_at(&self, tolerance: u8, best: &mut [u32], previous: &mut [u32]) -> Option<u64>
+        requires { Room self.now.ask.runs best.old previous.old }
+        ensures { Stopped self.now.ask tolerance self.now.goals.now best.new previous.new result }
+    {
+        let ask = self.ask;
+        let at = Search {
+            ask: Ask {
+                streets: ask.streets,
+                runs: ask.runs,
+                least: ask.least,
+                tolerance,
+                from: ask.from,
+                limit: ask.limit,
+            },
+            goals: self.goals,
+        };
+        if is_town(ask.streets.net.nodes(), ask.streets.net.segments()) {
+            return at.search_in::<TOWN_KEYS, { sizes::TOWN }>(best, previous);
         }
+        at.search_in_county(best, previous)
     }
-    None
+
+    // Searches at the tolerances from `least` to the one that is asked, until one of them meets a goal.
+    pub fn explore(&self, best: &mut [u32], previous: &mut [u32]) -> Option<Met>
+        requires { Room self.now.ask.runs best.old previous.old × (self.now.ask.least ≤ self.now.ask.tolerance) }
+        ensures { Meets self.now.ask self.now.goals.now best.new previous.new result }
+    {
+        for tolerance in self.ask.least..=self.ask.tolerance {
+            if let Some(key) = self.search_at(tolerance, best, previous) {
+                return Some(Met { key, tolerance });
+            }
+        }
+        None
+    }
 }

@@ -1,5 +1,5 @@
 // Settling a run: it leaves the queue, and the edges from it are relaxed.
-ghost use Rattle.search_relaxing.specs.Steps.Counted.{Ready};
+ghost use Rattle.search_relaxing.specs.Steps.Counted.{network_in};
 ghost use Rattle.search_relaxing.specs.Steps.Unfound.{Unfound};
 ghost use Rattle.search_rounds.specs.Steps.Searches.{DueNext, Settles};
 
@@ -7,22 +7,19 @@ use queue::{least, remove};
 use search_labels::{label_in, run_in};
 use search_relaxing::Ask;
 use search_relaxing::relax::{Reached, relax};
-use streets::runs::{arrival_leg, finish_of};
 
 // Settles the run with the least key, and gives the next key.
 pub fn settle(
-    net: &[u8],
-    index: &[u16],
-    ask: Ask,
+    ask: &Ask,
     key: u64,
     best: &mut [u32],
     previous: &mut [u32],
     tree: &mut [u64],
     unfound: &mut [u8],
 ) -> u64
-    requires { Ready net.now index.now ask × DueNext net.now ask key best.old previous.old tree.old unfound.old
-        × Unfound net.now ask.tolerance ask.runs best.old unfound.old }
-    ensures { Settles net.now ask key best.old previous.old unfound.old
+    requires { DueNext ask.now key best.old previous.old tree.old unfound.old
+        × Unfound (network_in ask.now) ask.now.tolerance ask.now.runs best.old unfound.old }
+    ensures { Settles ask.now key best.old previous.old unfound.old
         best.new previous.new tree.new unfound.new result }
 {
     let run = run_in(key);
@@ -31,9 +28,9 @@ pub fn settle(
     let here = Reached {
         run,
         label,
-        node: finish_of(net, run),
-        leg: arrival_leg(net, run),
+        node: ask.streets.net.finish_of(run),
+        leg: ask.streets.net.arrival_leg(run),
     };
-    relax(net, index, ask, here, best, previous, tree, unfound);
+    relax(ask, here, best, previous, tree, unfound);
     least(ask.runs, tree)
 }

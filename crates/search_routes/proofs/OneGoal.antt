@@ -13,27 +13,29 @@ use borrow.Author.Tests.{eq-eqb, ne_eqb}
 use Rattle.lists.specs.Lists.{at}
 use Rattle.lists.specs.Placed.{placed}
 use Rattle.lists.proofs.Facts.{eq_or_ne}
+use Rattle.routes.specs.Streets.{Streets}
 use Rattle.routes.specs.Reach.{is_marked}
 use Rattle.routes.specs.Routes.{level_of, NoRoute}
 use Rattle.routes.specs.Steps.Labels.{graph_of, chain}
 use Rattle.queue.specs.Steps.Queue.{top}
 use Rattle.frames.specs.Steps.Sizes.{county_feet}
 use Rattle.network.specs.Network.{nodes_of}
-use Rattle.streets.specs.Runs.{finish}
+use Rattle.streets.specs.Runs.{runs_of, finish, feet_of}
 use Rattle.streets.specs.Bicycle.{bicycle}
 use Rattle.streets.proofs.LeavingLaws.{finish_below}
 use Rattle.search_labels.specs.Steps.Search.{Fair, Stop}
 use Rattle.search_labels.specs.Steps.Keys.{label_in, run_in}
 use Rattle.search_relaxing.specs.declared.Ask.{Ask}
-use Rattle.search_relaxing.specs.Steps.Counted.{Counted, run_graph, goal_at}
-use Rattle.search_relaxing.proofs.CountedLaws.{counted, fair, run_of}
+use Rattle.search_relaxing.specs.Steps.Counted.{Counted, network_in, run_graph, goal_at}
+use Rattle.search_relaxing.specs.Steps.Unfound.{Unknown}
+use Rattle.search_relaxing.proofs.CountedLaws.{counted, fair, run_of, ask_counted}
 use Rattle.search_rounds.specs.declared.explore.Met.{Met}
 use Rattle.search_rounds.specs.Steps.Searches.{Sought, StopsAt, MetAt}
 use Rattle.search_routes.specs.Steps.Trace.{Traced, Ends}
 use Rattle.search_routes.specs.Steps.Answered.{Question, Unmarked, arrives_at, FirstFound}
 use Rattle.search_routes.proofs.Stopping.{stop_ends, stop_none, stop_written}
 
-module _ (net : List ℕ) {goals : List ℕ} (U : Unmarked net goals) {to : ℕ} (inside : to < nodes_of net) where
+module _ (net : List ℕ) {goals : List ℕ} (U : Unknown (nodes_of net) goals) {to : ℕ} (inside : to < nodes_of net) where
   pub goals_long : nodes_of net ≤ length (set goals to 1)
   goals_long = simp length-set U.long
 
@@ -74,49 +76,53 @@ module _ (net : List ℕ) {goals : List ℕ} (U : Unmarked net goals) {to : ℕ}
       met : (r : ℕ) → r < n → goal_at net (set goals to 1) r ≡ arrives_at (bicycle net) to r
       met r l = one_goal r (finish_below (run_of T l))
 
-module _ {net index : List ℕ} {ask : Ask} {to : ℕ} (Q : Question net index ask to) {goals : List ℕ} (U : Unmarked net goals) where
-  pub sought : (ask.from ≡ to → ⊥) → Sought net index ask (set goals to 1)
+module _ {ask : Ask} {to : ℕ} (Q : Question ask to) {goals : List ℕ} (U : Unmarked ask goals) where
+  abbrev net : List ℕ
+  net = network_in ask
+
+  abbrev g : Streets
+  g = bicycle net
+
+  pub sought : (ask.from ≡ to → ⊥) → Sought ask (set goals to 1)
   sought apart =
       record {
-        ready = Q.ready;
         marks = goals_long net U Q.to_node;
-        apart = other_node net U Q.to_node ask.from Q.ready.from_node apart;
+        apart = other_node net U Q.to_node ask.from ask.from_node apart;
         limited = omega (arith, Q.whole);
       }
 
-  node_stop : (t : ℕ) {m : ℕ} {best previous : List ℕ} → StopsAt net ask t (set goals to 1) best previous m
-      → Stop (graph_of (bicycle net) t ask.from) (arrives_at (bicycle net) to) best previous top m
-  node_stop t E = stop_at_node net U Q.to_node t ask.from Q.ready.counted Q.whole E.stop
+  node_stop : (t : ℕ) {m : ℕ} {best previous : List ℕ} → StopsAt ask t (set goals to 1) best previous m
+      → Stop (graph_of g t ask.from) (arrives_at g to) best previous top m
+  node_stop t E = stop_at_node net U Q.to_node t ask.from (ask_counted ask) Q.whole E.stop
 
-  all_fair : Fair (bicycle net).runs (bicycle net).feet county_feet
-  all_fair = fair (counted Q.ready.counted.network refl)
+  all_fair : Fair (runs_of net) (feet_of net) county_feet
+  all_fair = fair (counted ask.streets.net.kept refl)
 
   -- a search that met nothing
   pub none_there : (t : ℕ) {m : ℕ} {best previous : List ℕ} → (ask.from ≡ to → ⊥) → ask.limit ≤ m
-      → StopsAt net ask t (set goals to 1) best previous m → NoRoute (bicycle net) t ask.from to
-  none_there t apart beyond E = stop_none (bicycle net) t ask.from to all_fair (node_stop t E) apart (omega (arith, Q.whole))
+      → StopsAt ask t (set goals to 1) best previous m → NoRoute g t ask.from to
+  none_there t apart beyond E = stop_none g t ask.from to all_fair (node_stop t E) apart (omega (arith, Q.whole))
 
   -- one that met the run with this key
-  module _ {best previous : List ℕ} {met : Met} (M : MetAt net ask (set goals to 1) best previous met) where
+  module _ {best previous : List ℕ} {met : Met} (M : MetAt ask (set goals to 1) best previous met) where
     low_key : met.key < top
     low_key = omega (arith, M.below_limit, Q.whole)
 
     -- its chain ends
     pub met_ends : Ends ask.runs (at previous) (run_in met.key)
-    met_ends = rw Q.ready.counted.count (stop_ends (bicycle net) met.tolerance ask.from to all_fair (node_stop met.tolerance M.stop) low_key)
+    met_ends = rw ask.counted (stop_ends g met.tolerance ask.from to all_fair (node_stop met.tolerance M.stop) low_key)
 
     -- and where it is written, it is the answer
     pub first_found : {place count level : ℕ} {before after : List ℕ} → (ask.from ≡ to → ⊥)
         → Traced ask.runs (at previous) (run_in met.key) count
         → after ≡ placed place (chain (at previous) count (run_in met.key) []) before
-        → level ≡ level_of (bicycle net) (chain (at previous) count (run_in met.key) [])
-        → FirstFound (bicycle net) ask.least ask.tolerance ask.from to place before after
+        → level ≡ level_of g (chain (at previous) count (run_in met.key) [])
+        → FirstFound g ask.least ask.tolerance ask.from to place before after
         (record { count = count; length = label_in met.key; level = level }) met.tolerance
     first_found apart T text level =
         record {
           low = M.low;
           high = M.high;
           none_below = λ h. let N = M.none_below h in none_there (met.tolerance - 1) apart N.beyond N.stop;
-          written =
-              stop_written (bicycle net) met.tolerance ask.from to all_fair (node_stop met.tolerance M.stop) apart low_key (rw Q.ready.counted.count at T) text level;
+          written = stop_written g met.tolerance ask.from to all_fair (node_stop met.tolerance M.stop) apart low_key (rw ask.counted at T) text level;
         }

@@ -31,8 +31,8 @@ module _ {n : ℕ} {previous : ℕ → ℕ} {r p k : ℕ} (C : Counted n previou
       (λ (s : (p < n) × Depth n previous C.left p). s)
       C.rest
 
-  pub counted_more : p < unlabelled → Counted n previous r (previous p) (k + 1)
-  counted_more l = go C.left (counted_inside l).1 C.whole C.few
+  pub counted_more : p < unlabelled → {q : ℕ} → q ≡ previous p → Counted n previous r q (k + 1)
+  counted_more l {q} same = rw same (go C.left (counted_inside l).1 C.whole C.few)
     where
       go : (left : ℕ) → Depth n previous left p → Depth n previous (k + left) r → k + left ≤ n → Counted n previous r (previous p) (k + 1)
       go zero d h f = absurd d

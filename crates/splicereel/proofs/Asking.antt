@@ -3,8 +3,8 @@
 -- Assumes nothing.
 use Prim.Native.Nat.{ℕ, ◌+◌, ◌≤◌}
 use native.Mathlib.Omega.{arith}
-use mathlib.Core.Path.{◌≡◌, refl, subst}
-use mathlib.Core.Bool.{Bool, true, ◌&&◌}
+use mathlib.Core.Path.{◌≡◌, subst}
+use mathlib.Core.Bool.{true, ◌&&◌}
 use mathlib.Core.List.{List}
 use Rattle.std.specs.Prelude.{Option, Some, None, Ok}
 use Rattle.std.specs.Option.{option_map}
@@ -13,15 +13,19 @@ use lib.ListN.{length}
 use borrow.Author.Tests.{leb-true, ltb-true}
 use Rattle.lists.proofs.Facts.{and_true}
 use Rattle.routes.specs.Written.{Written}
+use Rattle.routes.specs.declared.Entry.{Entry}
 use Rattle.routes.specs.declared.LeastRoute.{LeastRoute}
 use Rattle.queue.specs.Steps.Queue.{top}
 use Rattle.frames.specs.Ranges.{within}
+use Rattle.network.specs.Network.{nodes_of}
 use Rattle.streets.specs.Bicycle.{bicycle}
+use Rattle.search_relaxing.specs.declared.Ask.{Ask}
+use Rattle.search_relaxing.specs.Steps.Counted.{network_in}
+use Rattle.search_reach.specs.Steps.Nearest.{Nearby}
 use Rattle.search_routes.specs.Steps.Answered.{Question, Rooms, Answered}
-use Rattle.splicereel.specs.declared.checks.Counts.{Counts}
-use Rattle.splicereel.specs.Finding.{fits, route_refusal}
+use Rattle.splicereel.specs.Finding.{fits, route_refusal, reach_refusal}
 use Rattle.splicereel.specs.Promises.{Lent, RoutePromise}
-use Rattle.splicereel.specs.Steps.Calls.{CountsOf}
+use Rattle.splicereel.specs.Reaching.{Scratch, NearestPromise}
 
 module _ {runs : ℕ} {best previous buffer : List ℕ} {place : ℕ} where
   pub rooms : fits runs (length best) (length previous) (length buffer) place ≡ true → Rooms runs best previous buffer place
@@ -36,24 +40,9 @@ module _ {runs : ℕ} {best previous buffer : List ℕ} {place : ℕ} where
         buffer_fits = leb-true (place + runs) (length buffer) b.1;
       }
 
-module _ {net index : List ℕ} {counts : Counts} (N : CountsOf net index counts) {from to : ℕ} (f : ltb from counts.nodes ≡ true)
-    (t : ltb to counts.nodes ≡ true)
-  where
-    pub in_order : {least most : ℕ} → 1 ≤ least → least ≤ most
-        → Question net index (record { runs = counts.runs; least = least; tolerance = most; from = from; limit = top }) to
-    in_order low order =
-        record {
-          ready =
-              record {
-                counted = record { network = N.network; count = N.runs };
-                indexed = N.corners;
-                from_node = rw N.nodes at (ltb-true from counts.nodes f);
-              };
-          to_node = rw N.nodes at (ltb-true to counts.nodes t);
-          low = low;
-          order = order;
-          whole = refl;
-        }
+pub in_order : {ask : Ask} {nodes to : ℕ} → nodes ≡ nodes_of (network_in ask) → ltb to nodes ≡ true → 1 ≤ ask.least → ask.least ≤ ask.tolerance
+    → ask.limit ≡ top → Question ask to
+in_order {nodes = nodes} {to} e t low order whole = record { to_node = rw e at (ltb-true to nodes t); low = low; order = order; whole = whole }
 
 pub low_enough : (t : ℕ) {u : ℕ} → within 1 4 t ≡ true → u ≡ t → 1 ≤ u
 low_enough t w e =
@@ -72,3 +61,10 @@ route_answers {net} {from} {to} {t} {u} {place} {before} {after} (Some told) e s
       holds =
           subst (λ (v : ℕ). Written (bicycle net) v from to place before.buffer after.buffer told.route) (omega (arith, A.low, A.high)) A.written;
     }
+
+-- Nearest answers what the exploration found.
+pub nearest_answers : {net : List ℕ} {from t : ℕ} {marks : List ℕ} {before after : Scratch} (nearest : Option Entry)
+    → 0 ≡ reach_refusal net from t (length before.best) (length before.previous) 1 (length marks) → Nearby (bicycle net) (nodes_of net) t from marks nearest
+    → NearestPromise net from t marks before after (Ok nearest)
+nearest_answers None e N = record { refusal = e; holds = N }
+nearest_answers (Some entry) e N = record { refusal = e; holds = record { nearest = N.nearest; fits = omega (arith, N.small) } }

@@ -1,6 +1,6 @@
 -- Memory that the counts choose has room: a county's for every network, a town's where the bytes are no county's.
 -- Assumes nothing.
-use mathlib.Core.Path.{◌≡◌}
+use mathlib.Core.Path.{◌≡◌, sym, subst}
 use mathlib.Core.Bool.{Bool, true, false}
 use mathlib.Core.List.{List}
 use native.Mathlib.Omega.{arith}
@@ -10,8 +10,8 @@ use Rattle.network.specs.Network.{nodes_of, is_network}
 use Rattle.network.specs.Steps.Checks.{is_county}
 use Rattle.network.proofs.NetworkLaws.{passed}
 use Rattle.network.proofs.SizeLaws.{county_heads, town_heads}
+use Rattle.search_relaxing.specs.Steps.Unfound.{Unknown}
 use Rattle.search_rounds.specs.Steps.Searches.{AllUnknown}
-use Rattle.search_routes.specs.Steps.Answered.{Unmarked}
 use Rattle.splicereel.specs.Steps.Calls.{CornerRoom, NodeRoom}
 
 pub county_corners : (net : List ℕ) → CornerRoom net (8 * county_size)
@@ -28,7 +28,9 @@ module _ {net : List ℕ} {county : Bool} (e : county ≡ is_county net) (f : co
   town_nodes = record { few = town_heads net e f; most = omega arith }
 
 -- bytes of zeros are no goals
-pub unmarked : {net goals : List ℕ} {nodes : ℕ} → NodeRoom net nodes → AllUnknown nodes goals → is_network net ≡ true → Unmarked net goals
-unmarked {net} R zeros is =
-    let P = passed net is in
-    zeros (nodes_of net) (R.few.few (omega (arith, P.long)) P.head.fields)
+pub unmarked : {here net goals : List ℕ} {nodes : ℕ} → is_network here ≡ true → here ≡ net → NodeRoom net nodes → AllUnknown nodes goals
+    → Unknown (nodes_of here) goals
+unmarked {here} {nodes = nodes} is e R zeros =
+    let P = passed here is in
+    let room = subst (λ (net : List ℕ). NodeRoom net nodes) (sym e) R in
+    zeros (nodes_of here) (room.few.few (omega (arith, P.long)) P.head.fields)

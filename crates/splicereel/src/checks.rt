@@ -6,31 +6,17 @@ ghost use Rattle.network.specs.Steps.Checks.{Awaits};
 ghost use Rattle.splicereel.specs.Finding.{fits};
 ghost use Rattle.splicereel.specs.Steps.Calls.{Tested, NetworkTested, AskTested, scratch_fits};
 
-use network::kept::is_network;
 use queue::TOP;
 use refusals::Refusal;
 use search_relaxing::Ask;
-use streets::runs::{nodes_of, segments_of};
-
-// How many nodes and runs a network has.
-#[derive(Clone, Copy)]
-pub struct Counts {
-    pub nodes: usize,
-    pub runs: usize,
-}
+use streets::kept::Streets;
 
 // 8: the bytes are a network. Its corners are then in the index.
-pub fn counts_of(net: &[u8], index: &mut [u16]) -> Result<Counts, Refusal>
+pub fn streets_of<'a>(net: &'a [u8], index: &'a mut [u16]) -> Result<Streets<'a>, Refusal>
     requires { Awaits net.now index.old }
-    ensures { NetworkTested net.now index.new result }
+    ensures { NetworkTested net.now result }
 {
-    if !is_network(net, index) {
-        return Err(Refusal::NotANetwork);
-    }
-    Ok(Counts {
-        nodes: nodes_of(net),
-        runs: 2 * segments_of(net),
-    })
+    Streets::of(net, index).ok_or(Refusal::NotANetwork)
 }
 
 // 9: the node is one of the network's.
@@ -92,23 +78,25 @@ pub fn check_entries(wanted: usize, entries: usize) -> Result<(), Refusal>
 
 // The tests of Reach map and Nearest up to 11, and what the search is then asked.
 #[tactic(auto, unfolding(crate::specs::Finding::reach_refusal))]
-pub fn ask_from(
-    net: &[u8],
-    index: &mut [u16],
+pub fn ask_from<'a>(
+    net: &'a [u8],
+    index: &'a mut [u16],
     from: usize,
     tolerance: usize,
     best: &[u32],
     previous: &[u32],
-) -> Result<Ask, Refusal>
+) -> Result<Ask<'a>, Refusal>
     requires { Awaits net.now index.old }
-    ensures { AskTested net.now index.new from tolerance best.now previous.now result }
+    ensures { AskTested net.now from tolerance best.now previous.now result }
 {
-    let counts = counts_of(net, index)?;
-    check_node(counts.nodes, from)?;
+    let streets = streets_of(net, index)?;
+    let runs = streets.net.runs();
+    check_node(streets.net.nodes(), from)?;
     let tolerance = tolerance_of(tolerance)?;
-    check_scratch(counts.runs, best.len(), previous.len())?;
+    check_scratch(runs, best.len(), previous.len())?;
     Ok(Ask {
-        runs: counts.runs,
+        streets,
+        runs,
         least: tolerance,
         tolerance,
         from,

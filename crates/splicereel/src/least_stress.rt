@@ -2,7 +2,7 @@
 ghost use Rattle.splicereel.specs.Promises.{lent, LeastPromise};
 ghost use Rattle.splicereel.specs.Steps.Calls.{CornerRoom, NodeRoom};
 
-use crate::checks::{check_node, check_room, counts_of};
+use crate::checks::{check_node, check_room, streets_of};
 use frames::sizes;
 use network::corners::{COUNTY_CORNERS, TOWN_CORNERS, free_corners};
 use network::kept::is_county;
@@ -70,19 +70,20 @@ fn least_stress_in<const CORNERS: usize, const NODES: usize>(
         (lent best.new previous.new buffer.new) place result }
 {
     let mut index = free_corners::<CORNERS>();
-    let counts = counts_of(net, &mut index)?;
-    check_node(counts.nodes, from)?;
-    check_node(counts.nodes, to)?;
-    check_room(counts.runs, best.len(), previous.len(), buffer.len(), place)?;
+    let streets = streets_of(net, &mut index)?;
+    let nodes = streets.net.nodes();
+    let runs = streets.net.runs();
+    check_node(nodes, from)?;
+    check_node(nodes, to)?;
+    check_room(runs, best.len(), previous.len(), buffer.len(), place)?;
     let ask = Ask {
-        runs: counts.runs,
+        streets,
+        runs,
         least: 1,
         tolerance: 4,
         from,
         limit: TOP,
     };
     let mut goals = unknown::<NODES>();
-    Ok(find(
-        net, &index, ask, to, best, previous, buffer, place, &mut goals,
-    ))
+    Ok(find(&ask, to, best, previous, buffer, place, &mut goals))
 }

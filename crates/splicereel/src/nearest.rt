@@ -7,7 +7,6 @@ use network::corners::{COUNTY_CORNERS, TOWN_CORNERS, free_corners};
 use network::kept::is_county;
 use refusals::Refusal;
 use routes::Entry;
-use streets::runs::nodes_of;
 
 // The nearest of the nodes whose byte in `marks` is not 0, with its least length in feet; of equally near ones the one with the lowest number. None where no
 // marked node has a route within the tolerance.
@@ -60,6 +59,6 @@ fn nearest_in<const CORNERS: usize>(
 {
     let mut index = free_corners::<CORNERS>();
     let ask = ask_from(net, &mut index, from, tolerance, best, previous)?;
-    check_entries(nodes_of(net), marks.len())?;
-    Ok(search_reach::nearest::nearest(net, &index, ask, marks, best, previous))
+    check_entries(ask.streets.net.nodes(), marks.len())?;
+    Ok(search_reach::nearest::nearest(&ask, marks, best, previous))
 }

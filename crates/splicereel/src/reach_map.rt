@@ -9,7 +9,6 @@ use network::kept::is_county;
 use refusals::Refusal;
 use search_reach::map::reach;
 use search_rounds::explore::unknown;
-use streets::runs::nodes_of;
 
 // Writes the entries at the front of the list, each two numbers, the node and its least length in feet, in rising node number, and gives their count.
 pub fn reach_map(
@@ -71,7 +70,7 @@ fn reach_map_in<const CORNERS: usize, const NODES: usize>(
 {
     let mut index = free_corners::<CORNERS>();
     let ask = ask_from(net, &mut index, from, tolerance, best, previous)?;
-    check_entries(2 * nodes_of(net), list.len())?;
+    check_entries(2 * ask.streets.net.nodes(), list.len())?;
     let goals = unknown::<NODES>();
-    Ok(reach(net, &index, ask, greatest, &goals, best, previous, list))
+    Ok(reach(&ask, greatest, &goals, best, previous, list))
 }

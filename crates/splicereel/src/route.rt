@@ -2,7 +2,7 @@
 ghost use Rattle.splicereel.specs.Promises.{lent, RoutePromise};
 ghost use Rattle.splicereel.specs.Steps.Calls.{CornerRoom, NodeRoom};
 
-use crate::checks::{check_node, check_room, counts_of, tolerance_of};
+use crate::checks::{check_node, check_room, streets_of, tolerance_of};
 use frames::sizes;
 use network::corners::{COUNTY_CORNERS, TOWN_CORNERS, free_corners};
 use network::kept::is_county;
@@ -76,21 +76,22 @@ fn route_in<const CORNERS: usize, const NODES: usize>(
         (lent best.new previous.new buffer.new) place result }
 {
     let mut index = free_corners::<CORNERS>();
-    let counts = counts_of(net, &mut index)?;
-    check_node(counts.nodes, from)?;
-    check_node(counts.nodes, to)?;
+    let streets = streets_of(net, &mut index)?;
+    let nodes = streets.net.nodes();
+    let runs = streets.net.runs();
+    check_node(nodes, from)?;
+    check_node(nodes, to)?;
     let tolerance = tolerance_of(tolerance)?;
-    check_room(counts.runs, best.len(), previous.len(), buffer.len(), place)?;
+    check_room(runs, best.len(), previous.len(), buffer.len(), place)?;
     let ask = Ask {
-        runs: counts.runs,
+        streets,
+        runs,
         least: tolerance,
         tolerance,
         from,
         limit: TOP,
     };
     let mut goals = unknown::<NODES>();
-    let least = find(
-        net, &index, ask, to, best, previous, buffer, place, &mut goals,
-    );
+    let least = find(&ask, to, best, previous, buffer, place, &mut goals);
     Ok(least.map(|least| least.route))
 }

@@ -12,7 +12,7 @@ impl Told for Option<Entry> {
 
     ghost entries = { nearest_entries };
 
-    fn write(self, told: &mut [u32]) {
+    fn write(self, told: &mut [u32; 8]) {
         match self {
             None => told[0] = 0,
             Some(entry) => {

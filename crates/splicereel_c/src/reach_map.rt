@@ -12,7 +12,7 @@ impl Told for usize {
 
     ghost entries = { count_entries };
 
-    fn write(self, told: &mut [u32]) {
+    fn write(self, told: &mut [u32; 8]) {
         told[0] = self as u32;
     }
 }

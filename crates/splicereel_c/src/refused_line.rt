@@ -1,12 +1,10 @@
 // The refused line for C.
-ghost use Rattle.std.specs.Prelude.{◌≤◌, length};
 ghost use Rattle.splicereel_c.specs.Replies.{Replies, LineReplies, line_reply};
 
 use cursor::Cursor;
 use splicereel::refused_line::locate;
 
-fn tell(cursor: Cursor, part: &mut [usize]) -> u32
-    requires { 2 ≤ length part.old }
+fn tell(cursor: Cursor, part: &mut [usize; 2]) -> u32
     ensures { Replies (line_reply cursor) part.old part.new result }
 {
     part[0] = cursor.start;

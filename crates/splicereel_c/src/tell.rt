@@ -1,5 +1,5 @@
 // How each answer is told: a refusal's number is returned and writes nothing, and an answer that is none writes its numbers in front.
-ghost use Rattle.std.specs.Prelude.{◌≡◌, ℕ, ◌≤◌, List, ◌++◌, length, drop, IfOk};
+ghost use Rattle.std.specs.Prelude.{◌≡◌, ℕ, List, ◌++◌, length, drop, IfOk};
 ghost use Rattle.splicereel_c.specs.Replies.{Replies};
 ghost use Rattle.splicereel_c.specs.Steps.Tells.{reply_to};
 
@@ -14,14 +14,14 @@ pub trait Told {
     ghost entries: { Self → List ℕ };
 
     // Writes them; the later entries stay as they came.
-    fn write(self, told: &mut [u32])
-        requires { fits self × (8 ≤ length told.old) }
+    fn write(self, told: &mut [u32; 8])
+        requires { fits self }
         ensures { told.new ≡ entries self ++ drop (length (entries self)) told.old };
 }
 
 // Tells an answer: 0, or the refusal's number.
-pub fn tell<T: Told>(answer: Result<T, Refusal>, told: &mut [u32]) -> u32
-    requires { IfOk answer T.fits × (8 ≤ length told.old) }
+pub fn tell<T: Told>(answer: Result<T, Refusal>, told: &mut [u32; 8]) -> u32
+    requires { IfOk answer T.fits }
     ensures { Replies (reply_to T.entries answer) told.old told.new result }
 {
     match answer {

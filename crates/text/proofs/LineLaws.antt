@@ -1,26 +1,28 @@
--- What a line's answer tells. A line that was read as a frame has no fault of its own, and its bytes are in the buffer; a faulty line has its fault's
--- number whatever is tested later.
+-- What a line's answer tells; which lines have another number of bytes than they should; and the laws that decide at each step of Read.
 -- Assumes nothing.
-use Prim.Native.Nat.{ℕ}
+use Prim.Native.Nat.{ℕ, ◌*◌, ◌≤◌, ◌<◌}
 use mathlib.Core.Bool.{Bool, true, false}
-use mathlib.Core.Path.{◌≡◌, refl, sym, ◌∙◌, subst, subst₂}
+use mathlib.Core.Path.{◌≡◌, refl, sym, ◌∙◌, subst}
 use mathlib.Core.List.{List}
 use lib.Dec.{eqb}
-use lib.ListN.{length}
+use lib.ListN.{length, get_or}
+use native.Mathlib.Omega.{arith}
 use borrow.Author.Tests.{ne_eqb, eqb-true, eqb-false}
 use Rattle.lists.specs.Lists.{is_empty}
 use Rattle.lists.proofs.Lists.{length_of_none, length_of_some}
 use Rattle.refusals.specs.declared.Refusal.{Refusal}
 use Rattle.refusals.specs.Numbers.{number_of}
 use Rattle.refusals.proofs.Positive.{positive}
-use Rattle.frames.specs.declared.Head.{Head}
-use Rattle.frames.specs.Faults.{framed}
-use Rattle.frames.proofs.FrameLaws.{framed_bad}
+use Rattle.frames.proofs.EditionLaws.{frame_least, frame_most}
+use Rattle.frames.proofs.FrameLaws.{empty_fault, check_fault, size_fault, kind_fault, no_fault, framed_has, framed_good, framed_bad}
+use Rattle.network.proofs.CornerLaws.{corners_few}
+use Rattle.digits.proofs.DigitLaws.{length_spelled, whole_line, line_after, line_digits, scan_tells, scan_breaks}
+use Rattle.std.proofs.lemmas.Bool.Decides.{nat_tests}
 use Rattle.std.specs.Prelude.{Result, Ok, Err, MatchResult, ⊤}
 use Rattle.std.specs.Result.{IsErrAnd}
 use Rattle.std.proofs.lemmas.Result.{err_from_is_err_and}
 use Rattle.text.specs.declared.Refused.{Refused}
-use Rattle.text.specs.Steps.Lines.{line_bytes, Tells, FrameRead, fault_after, SegmentJudged}
+use Rattle.text.specs.Steps.Lines.{line_bytes, Tells}
 
 -- whether a text is empty, as the code finds out
 module _ (t : List ℕ) {b : Bool} (e : b ≡ eqb (length t) 0) where
@@ -30,11 +32,7 @@ module _ (t : List ℕ) {b : Bool} (e : b ≡ eqb (length t) 0) where
   pub some_text : b ≡ false → is_empty t ≡ false
   some_text f = length_of_some t (eqb-false _ _ (sym e ∙ f))
 
--- a fault leaves the index as it was
-pub judged_faulty : {f : List ℕ} {head : Head} {s : ℕ} {d : List ℕ} (fault : Refusal) → fault_after head s d f ≡ number_of fault
-    → SegmentJudged f head s d d (Err fault)
-judged_faulty fault h = record { answer = h; index = rw (h, ne_eqb (number_of fault) 0 (positive fault)) }
-
+-- what an answer tells of the fault's number
 pub tells_frame : (number : ℕ) {x : ⊤} {r : Result ⊤ Refusal} → Tells number r → r ≡ Ok x → number ≡ 0
 tells_frame number h e = subst (λ (y : Result ⊤ Refusal). Tells number y) e h
 
@@ -63,19 +61,21 @@ module _ (r : Result ⊤ Refusal) (m : Result ⊤ Refused) (Q : Refusal → Refu
           let q : p.0 ≡ why = err_same (sym p.1 ∙ e) in
           (f, i, subst (Q f) q p.2)
 
--- a line that was read as a frame f of this kind and size
-pub record Framing (kind size : ℕ) (t f : List ℕ) : Type 0 where
-  pub good : framed kind size f 0 ≡ 0
-  pub bytes : f ≡ line_bytes t
+-- a line has another number of bytes where the text is too short for so many, or no 0A stands after them
+module _ (t : List ℕ) (n : ℕ) (z : 0 < n) where
+  pub too_short : length t ≤ 2 * n → eqb (length (line_bytes t)) n ≡ false
+  too_short h = ne_eqb _ _ (λ e. omega (arith, (line_after t n z e).0))
 
-module _ {kind size : ℕ} {t z f : List ℕ} {r : Result ⊤ Refusal} (l : length z ≡ size) (h : FrameRead t kind z f r) where
-  pub framing : {done : ⊤} → r ≡ Ok done → Framing kind size t f
-  framing e =
-      let q : framed kind (length z) (line_bytes t) 0 ≡ 0 = tells_frame _ h.answer e in
-      let b : f ≡ line_bytes t = h.frame q in
-      record { good = subst₂ (λ (n : ℕ) (g : List ℕ). framed kind n g 0 ≡ 0) l (sym b) q; bytes = b }
+  pub no_end : (get_or t (2 * n) 0 ≡ 10 → ⊥) → eqb (length (line_bytes t)) n ≡ false
+  no_end h = ne_eqb _ _ (λ e. h (line_digits t n z e).1)
 
-  pub faulting : {fault : Refusal} → r ≡ Err fault → (later : ℕ) → framed kind size (line_bytes t) later ≡ number_of fault
-  faulting {fault} e later =
-      framed_bad kind size later _ (number_of fault) (positive fault)
-      (subst (λ (n : ℕ). framed kind n (line_bytes t) 0 ≡ number_of fault) l (tells_fault _ h.answer e))
+-- ---- what decides at each step of Read
+pub ruleset line_decoded = (too_short, no_end, length_spelled, whole_line, line_digits)
+
+pub ruleset fault_told = (empty_fault, check_fault, size_fault, scan_tells, scan_breaks)
+
+pub ruleset frame_read = (check_fault, kind_fault, no_fault)
+
+pub ruleset line_judged = (frame_least, frame_most, positive, framed_bad)
+
+pub ruleset frame_judged = (frame_least, framed_has, framed_good, corners_few, positive, nat_tests)

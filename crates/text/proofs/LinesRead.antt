@@ -21,6 +21,7 @@ use Rattle.frames.specs.declared.Head.{Head}
 use Rattle.frames.specs.Edition.{frame_bytes}
 use Rattle.frames.specs.Steps.Sizes.{Limited}
 use Rattle.frames.proofs.EditionLaws.{frame_least}
+use Rattle.frames.proofs.FrameLaws.{framed_good, framed_bad, limited}
 use Rattle.network.specs.Legs.{taking}
 use Rattle.network.specs.Faults.{segment_fault}
 use Rattle.network.specs.Steps.Corners.{Indexed}
@@ -34,7 +35,7 @@ use Rattle.text.specs.Told.{told, told_of, written}
 use Rattle.text.specs.Steps.Lines.{line_bytes, fault_after, LineJudged}
 use Rattle.std.specs.Prelude.{Result, Ok, Err, ⊤}
 use Rattle.text.specs.Told.{refused_at}
-use Rattle.text.proofs.LineLaws.{tells_frame, tells_fault}
+use Rattle.text.proofs.LineLaws.{tells_frame, tells_fault, no_text, some_text}
 
 -- ---- the cases of `segment_lines`
 pub fault_decides : (x at : ℕ) (later : Reading) → (x ≡ 0 → ⊥) → unless_fault x at later ≡ refused x at
@@ -173,3 +174,8 @@ module _ {h all : List ℕ} {head : Head} {s : ℕ} {rest d : List ℕ} (w : Goi
               (sym (good_line head.edition head.nodes (s + 2) w.taken w.sofar rest (head.segments - (s + 1)) l z)
               ∙ ap (λ (j : ℕ). segment_lines head.edition head.nodes j (s + 2) w.taken w.sofar rest) e₃ ∙ w.whole);
         }
+
+-- ---- what decides at the head's line, and at each turn of the loop
+pub ruleset head_judged = (no_text, some_text, positive, fault_decides, framed_good, framed_bad, limited)
+
+pub ruleset lines_judged = (some_text, limited, starts, goes_on)

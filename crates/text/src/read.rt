@@ -1,9 +1,8 @@
 // Read: a first pass over the text finds the first fault and writes nothing; a second pass writes the bytes.
-ghost use Rattle.std.specs.Prelude.{◌+◌, ◌*◌, ◌/◌, ◌≤◌, ◌<◌, ◌≡◌, true, [], ◌++◌, length, drop};
+ghost use Rattle.std.specs.Prelude.{◌+◌, ◌*◌, ◌/◌, ◌≤◌, ◌<◌, ◌≡◌, [], ◌++◌, length, drop};
 ghost use Rattle.frames.specs.Edition.{frame_bytes};
 ghost use Rattle.frames.specs.Steps.Sizes.{county_size, most_bytes};
 ghost use Rattle.frames.specs.Frame.{head_bytes, nodes};
-ghost use Rattle.frames.specs.Ranges.{head_ok};
 ghost use Rattle.frames.specs.Faults.{framed};
 ghost use Rattle.network.specs.Steps.Corners.{Indexed};
 ghost use Rattle.network.specs.Steps.Checks.{HeadFits};
@@ -12,12 +11,12 @@ ghost use Rattle.text.specs.Told.{refused_at, told, told_of, ReadDid};
 ghost use Rattle.text.specs.Steps.Spelled.{spelled_text};
 ghost use Rattle.text.specs.Steps.Lines.{LineDecoded, LineFault, FrameRead, SegmentJudged, LineJudged, HeadJudged, lines_after};
 
-use crate::Refused;
+use crate::{GoodHead, Refused};
 use digits::{Scanned, decode_into, scan_line};
 use frames::decoded::head_of;
 use frames::edition::frame_bytes;
-use frames::frame::sum_of;
-use frames::ranges::{ends_ok, head_ok, street_ok};
+use frames::frame::{Frame, sum_of};
+use frames::ranges::{ends_ok, head_ok};
 use frames::sizes::is_town;
 use frames::{Head, fields, sizes};
 use network::corners::{COUNTY_CORNERS, TOWN_CORNERS, claim_legs, free_corners};
@@ -26,6 +25,7 @@ use refusals::Refusal;
 
 // Reads the first line of what is left of a text into the buffer, where it has as many bytes as the buffer: then its digits and its 0A stand where they
 // must, and nothing is searched for.
+#[tactic(auto, using(crate::proofs::LineLaws::line_decoded))]
 fn whole_line(rest: &[u8], frame: &mut [u8]) -> bool
     requires { (0 < length frame.old) × (length frame.old ≤ most_bytes) }
     ensures { LineDecoded rest.now frame.old frame.new result }
@@ -41,6 +41,7 @@ fn whole_line(rest: &[u8], frame: &mut [u8]) -> bool
 }
 
 // The fault of a first line that has another number of bytes than it should.
+#[tactic(auto, using(crate::proofs::LineLaws::fault_told))]
 fn fault_of(rest: &[u8]) -> Refusal
     ensures { LineFault rest.now result }
 {
@@ -57,6 +58,7 @@ fn fault_of(rest: &[u8]) -> Refusal
 }
 
 // Reads a first line as a frame of this kind and of the buffer's length.
+#[tactic(auto, using(crate::proofs::LineLaws::frame_read))]
 fn frame_line(rest: &[u8], kind: u8, frame: &mut [u8]) -> Result<(), Refusal>
     requires { (0 < length frame.old) × (length frame.old ≤ most_bytes) }
     ensures { FrameRead rest.now kind frame.old frame.new result }
@@ -74,6 +76,7 @@ fn frame_line(rest: &[u8], kind: u8, frame: &mut [u8]) -> Result<(), Refusal>
 }
 
 // Judges the frame of segment s, whose line had no fault of its own, and takes its legs where it has no fault either.
+#[tactic(auto, using(crate::proofs::LineLaws::frame_judged))]
 fn judge_frame(frame: &[u8], head: Head, s: usize, index: &mut [u16]) -> Result<(), Refusal>
     requires { (framed 2 (frame_bytes head.edition) frame.now 0 ≡ 0) × HeadFits head index.old }
     ensures { SegmentJudged frame.now head s index.old index.new result }
@@ -81,7 +84,11 @@ fn judge_frame(frame: &[u8], head: Head, s: usize, index: &mut [u16]) -> Result<
     if head.segments <= s {
         return Err(Refusal::WrongCount);
     }
-    if !street_ok(frame, head.edition) {
+    let street = Frame {
+        bytes: frame,
+        edition: head.edition,
+    };
+    if !street.street_ok() {
         return Err(Refusal::WrongField);
     }
     if !ends_ok(frame, head.nodes) {
@@ -94,6 +101,7 @@ fn judge_frame(frame: &[u8], head: Head, s: usize, index: &mut [u16]) -> Result<
 }
 
 // Judges the line of segment s, read into a buffer of a frame's length.
+#[tactic(auto, using(crate::proofs::LineLaws::line_judged))]
 fn judge_line(
     rest: &[u8],
     head: Head,
@@ -126,15 +134,12 @@ fn refused_at(refusal: Refusal, line: usize) -> Refused
 }
 
 // The answer for the lines after a good head, with an index that has room for the head's nodes. A line that has no fault is as long as each other one.
-fn judge_lines(
-    lines: &[u8],
-    first: &[u8; fields::HEAD_BYTES],
-    index: &mut [u16],
-) -> Result<usize, Refused>
-    requires { (head_ok first.now ≡ true) × Indexed (nodes first.now) [] index.old }
-    ensures { told result ≡ told_of (lines_after first.now lines.now) }
+#[tactic(auto, using(crate::proofs::LinesRead::lines_judged))]
+fn judge_lines(lines: &[u8], first: &GoodHead, index: &mut [u16]) -> Result<usize, Refused>
+    requires { Indexed (nodes first.now.bytes) [] index.old }
+    ensures { told result ≡ told_of (lines_after first.now.bytes lines.now) }
 {
-    let head = head_of(first);
+    let head = head_of(&first.bytes);
     let line = 2 * frame_bytes(head.edition) + 1;
     let mut s: usize = 0;
     let mut rest = lines;
@@ -150,12 +155,9 @@ fn judge_lines(
 }
 
 // The same in memory of its own for so many corners.
-fn judge_in<const CORNERS: usize>(
-    lines: &[u8],
-    first: &[u8; fields::HEAD_BYTES],
-) -> Result<usize, Refused>
-    requires { (head_ok first.now ≡ true) × (nodes first.now ≤ CORNERS / 8) × (CORNERS ≤ 8 * county_size) }
-    ensures { told result ≡ told_of (lines_after first.now lines.now) }
+fn judge_in<const CORNERS: usize>(lines: &[u8], first: &GoodHead) -> Result<usize, Refused>
+    requires { (nodes first.now.bytes ≤ CORNERS / 8) × (CORNERS ≤ 8 * county_size) }
+    ensures { told result ≡ told_of (lines_after first.now.bytes lines.now) }
 {
     let mut index = free_corners::<CORNERS>();
     judge_lines(lines, first, &mut index)
@@ -163,19 +165,18 @@ fn judge_in<const CORNERS: usize>(
 
 // The same in a county's memory. It is never inlined, so that a town takes no stack for a county.
 #[inline(never)]
-pub fn judge_in_county(lines: &[u8], first: &[u8; fields::HEAD_BYTES]) -> Result<usize, Refused>
-    requires { head_ok first.now ≡ true }
-    ensures { told result ≡ told_of (lines_after first.now lines.now) }
+pub fn judge_in_county(lines: &[u8], first: &GoodHead) -> Result<usize, Refused>
+    ensures { told result ≡ told_of (lines_after first.now.bytes lines.now) }
 {
     judge_in::<COUNTY_CORNERS>(lines, first)
 }
 
 // The same in a town's memory, where the network is no larger.
-fn judge_segments(lines: &[u8], first: &[u8; fields::HEAD_BYTES]) -> Result<usize, Refused>
-    requires { head_ok first.now ≡ true }
-    ensures { told result ≡ told_of (lines_after first.now lines.now) }
+#[tactic(auto, using(frames::proofs::TownLaws::town_nodes))]
+fn judge_segments(lines: &[u8], first: &GoodHead) -> Result<usize, Refused>
+    ensures { told result ≡ told_of (lines_after first.now.bytes lines.now) }
 {
-    let head = head_of(first);
+    let head = head_of(&first.bytes);
     if is_town(head.nodes, head.segments) {
         judge_in::<TOWN_CORNERS>(lines, first)
     } else {
@@ -183,29 +184,30 @@ fn judge_segments(lines: &[u8], first: &[u8; fields::HEAD_BYTES]) -> Result<usiz
     }
 }
 
-// Judges the head's line, read into `first`, and the output's room. Where it finds no fault, the lines after it decide.
-fn judge_head(text: &[u8], room: usize, first: &mut [u8; fields::HEAD_BYTES]) -> Result<(), Refusal>
-    ensures { HeadJudged text.now room first.new result }
+// Judges the head's line and the output's room. Where it finds no fault, it gives the head, and the lines after it decide.
+#[tactic(auto, using(crate::proofs::LinesRead::head_judged), unfolding(crate::specs::Read::read_of, frames::specs::Faults::head_fault))]
+fn judge_head(text: &[u8], room: usize) -> Result<GoodHead, Refusal>
+    ensures { HeadJudged text.now room result }
 {
     if text.is_empty() {
         return Err(Refusal::WrongFrame);
     }
-    frame_line(text, fields::HEAD_KIND, first)?;
-    if !head_ok(first) {
+    let mut bytes = [0; fields::HEAD_BYTES];
+    frame_line(text, fields::HEAD_KIND, &mut bytes)?;
+    if !head_ok(&bytes) {
         return Err(Refusal::WrongField);
     }
-    if room < kept_bytes(head_of(first)) {
+    if room < kept_bytes(head_of(&bytes)) {
         return Err(Refusal::OutputTooShort);
     }
-    Ok(())
+    Ok(GoodHead { bytes })
 }
 
 // The answer for a text and an output of `room` bytes.
 pub fn judge_text(text: &[u8], room: usize) -> Result<usize, Refused>
     ensures { told result ≡ told_of (read_of text.now room) }
 {
-    let mut first = [0; fields::HEAD_BYTES];
-    judge_head(text, room, &mut first).map_err(|refusal| refused_at(refusal, 1))?;
+    let first = judge_head(text, room).map_err(|refusal| refused_at(refusal, 1))?;
     judge_segments(&text[fields::HEAD_LINE..], &first)
 }
 
@@ -223,6 +225,7 @@ fn write_frames(text: &[u8], size: usize, segments: usize, output: &mut [u8])
 }
 
 // Reads a network text into the output: the first faulty line decides, and a refusal leaves the output as it was.
+#[tactic(auto, using(crate::proofs::KeptText::was_refused))]
 pub fn read(text: &[u8], output: &mut [u8]) -> Result<usize, Refused>
     ensures { ReadDid text.now output.old output.new result }
 {

@@ -8,7 +8,7 @@ use Rattle.routes.specs.Steps.Reach.{entries_of}
 use Rattle.queue.specs.Steps.Queue.{top}
 use Rattle.network.specs.Network.{nodes_of}
 use Rattle.search_relaxing.specs.declared.Ask.{Ask}
-use Rattle.search_relaxing.specs.Steps.Counted.{Ready}
+use Rattle.search_relaxing.specs.Steps.Counted.{network_in}
 use Rattle.search_reach.specs.Steps.Arrivals.{length_to, LookedAt}
 
 -- A greatest length, at most the greatest that a label can be.
@@ -16,15 +16,14 @@ abbrev pub clamped : ℕ → ℕ
 clamped greatest = min greatest (unlabelled - 1)
 
 -- A question at one tolerance, from 1 up, without a limit.
-pub record AskedAt (net index : List ℕ) (ask : Ask) : Type 0 where
-  pub ready : Ready net index ask
+pub record AskedAt (ask : Ask) : Type 0 where
   pub low : 1 ≤ ask.tolerance
   pub one : ask.least ≡ ask.tolerance
   pub whole : ask.limit ≡ top
 
 -- The list has two numbers for each node.
-pub record ListRoom (net list : List ℕ) : Type 0 where
-  pub fits : 2 * nodes_of net ≤ length list
+pub record ListRoom (ask : Ask) (list : List ℕ) : Type 0 where
+  pub fits : 2 * nodes_of (network_in ask) ≤ length list
 
 -- The node's entry may be written at the place.
 pub record Listable (index best : List ℕ) (node : ℕ) (list : List ℕ) (place : ℕ) : Type 0 where

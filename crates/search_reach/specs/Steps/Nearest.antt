@@ -6,11 +6,13 @@ use Rattle.routes.specs.Reach.{is_marked, Nearest, NoneMarked}
 use Rattle.routes.specs.Steps.Labels.{unlabelled}
 use Rattle.routes.specs.declared.Entry.{Entry}
 use Rattle.network.specs.Network.{nodes_of}
+use Rattle.search_relaxing.specs.declared.Ask.{Ask}
+use Rattle.search_relaxing.specs.Steps.Counted.{network_in}
 use Rattle.search_reach.specs.Steps.Arrivals.{length_to, LookedAt}
 
 -- A byte for each node.
-pub record Marks (net marks : List ℕ) : Type 0 where
-  pub fits : nodes_of net ≤ length marks
+pub record Marks (ask : Ask) (marks : List ℕ) : Type 0 where
+  pub fits : nodes_of (network_in ask) ≤ length marks
 
 -- The node is not marked, or farther than the length.
 unfoldable pub is_far : List ℕ → List ℕ → ℕ → List ℕ → ℕ → ℕ → Bool

@@ -15,7 +15,7 @@ use Rattle.search_relaxing.specs.declared.relax.Reached.{Reached}
 use Rattle.search_relaxing.specs.declared.relax.Choice.{Choice}
 use Rattle.search_relaxing.specs.declared.relax.ToFind.{ToFind}
 use Rattle.search_relaxing.specs.declared.relax.ToFind.TheVariants.{Any, Leg, Nothing}
-use Rattle.search_relaxing.specs.Steps.Counted.{Counted, Ready}
+use Rattle.search_relaxing.specs.Steps.Counted.{network_in, index_in}
 use Rattle.search_relaxing.specs.Steps.Unfound.{nothing, note_of, Noteable, Unfound, spent_of, Arrives, RunBehind, EveryExit, to_usable, to_each, Way, Spread}
 
 -- ---- What is chosen
@@ -67,53 +67,50 @@ ChosenOf net index t n u node leg unfound None = NoEdge net t n u unfound
 
 -- ---- The same at what a search is asked and the run that it settles
 -- The run is one of the runs, and arrives where it is said to.
-pub record Reaches (net : List ℕ) (ask : Ask) (here : Reached) : Type 0 where
+pub record Reaches (ask : Ask) (here : Reached) : Type 0 where
   pub inside : here.run < ask.runs
-  pub arrives : Arrives net here.run here.node here.leg
+  pub arrives : Arrives (network_in ask) here.run here.node here.leg
 
-abbrev pub Chooses : List ℕ → List ℕ → Ask → Reached → List ℕ → Option Choice → Type 0
-Chooses net index ask here unfound c = ChosenOf net index ask.tolerance ask.runs here.run here.node here.leg unfound c
+abbrev pub Chooses : Ask → Reached → List ℕ → Option Choice → Type 0
+Chooses ask here unfound c = ChosenOf (network_in ask) (index_in ask) ask.tolerance ask.runs here.run here.node here.leg unfound c
 
-abbrev pub Relaxing : List ℕ → Ask → Reached → List ℕ → List ℕ → List ℕ → List ℕ → Type 0
-Relaxing net ask here unfound best previous tree =
-    Settling ask.runs county_feet here.run here.label (spent_of net unfound) best previous tree
+abbrev pub Relaxing : Ask → Reached → List ℕ → List ℕ → List ℕ → List ℕ → Type 0
+Relaxing ask here unfound best previous tree =
+    Settling ask.runs county_feet here.run here.label (spent_of (network_in ask) unfound) best previous tree
 
 -- The edges from the run may be relaxed.
-pub record Relaxable (net index : List ℕ) (ask : Ask) (here : Reached) (best previous tree unfound : List ℕ) : Type 0 where
-  pub ready : Ready net index ask
-  pub reaches : Reaches net ask here
-  pub right : Unfound net ask.tolerance ask.runs best unfound
-  pub settling : Relaxing net ask here unfound best previous tree
+pub record Relaxable (ask : Ask) (here : Reached) (best previous tree unfound : List ℕ) : Type 0 where
+  pub reaches : Reaches ask here
+  pub right : Unfound (network_in ask) ask.tolerance ask.runs best unfound
+  pub settling : Relaxing ask here unfound best previous tree
 
 -- A run may be visited.
-pub record Visitable (net : List ℕ) (ask : Ask) (here : Reached) (run : ℕ) (best previous tree unfound : List ℕ) : Type 0 where
-  pub counted : Counted net ask.runs
+pub record Visitable (ask : Ask) (here : Reached) (run : ℕ) (best previous tree unfound : List ℕ) : Type 0 where
   pub within : run < ask.runs
-  pub long : nodes_of net ≤ length unfound
-  pub settling : Relaxing net ask here unfound best previous tree
+  pub long : nodes_of (network_in ask) ≤ length unfound
+  pub settling : Relaxing ask here unfound best previous tree
 
 -- It was visited: if it is usable, and had no label, it got one.
-pub record Visited (net : List ℕ) (ask : Ask) (here : Reached) (run : ℕ) (unfound best previous best' previous' tree' : List ℕ) : Type 0 where
-  pub visit : Visit (to_usable net ask.tolerance) (feet_of net) here.run here.label run best previous best' previous'
-  pub settling : Relaxing net ask here unfound best' previous' tree'
+pub record Visited (ask : Ask) (here : Reached) (run : ℕ) (unfound best previous best' previous' tree' : List ℕ) : Type 0 where
+  pub visit : Visit (to_usable (network_in ask) ask.tolerance) (feet_of (network_in ask)) here.run here.label run best previous best' previous'
+  pub settling : Relaxing ask here unfound best' previous' tree'
 
 -- The run behind an entry may be offered.
-pub record Offerable (net : List ℕ) (ask : Ask) (here : Reached) (entry : ℕ) (best previous tree unfound : List ℕ) : Type 0 where
-  pub counted : Counted net ask.runs
+pub record Offerable (ask : Ask) (here : Reached) (entry : ℕ) (best previous tree unfound : List ℕ) : Type 0 where
   pub behind : RunBehind ask.runs entry
-  pub long : nodes_of net ≤ length unfound
-  pub settling : Relaxing net ask here unfound best previous tree
+  pub long : nodes_of (network_in ask) ≤ length unfound
+  pub settling : Relaxing ask here unfound best previous tree
 
 -- An entry was offered: a usable run without a label got one.
-pub record LegRelaxed (net : List ℕ) (ask : Ask) (here : Reached) (entry : ℕ) (unfound best previous best' previous' tree' : List ℕ) : Type 0 where
+pub record LegRelaxed (ask : Ask) (here : Reached) (entry : ℕ) (unfound best previous best' previous' tree' : List ℕ) : Type 0 where
   pub offered :
-      Offer (to_usable net ask.tolerance) (feet_of net) here.run here.label entry best previous best' previous'
-  pub settling : Relaxing net ask here unfound best' previous' tree'
+      Offer (to_usable (network_in ask) ask.tolerance) (feet_of (network_in ask)) here.run here.label entry best previous best' previous'
+  pub settling : Relaxing ask here unfound best' previous' tree'
 
 -- Every edge was offered.
-pub record EdgesRelaxed (net : List ℕ) (ask : Ask) (here : Reached) (unfound best previous best' previous' tree' : List ℕ) : Type 0 where
-  pub relaxed : Relaxed (edge_of (bicycle net) ask.tolerance) (feet_of net) ask.runs here.run here.label best previous best' previous'
-  pub settling : Relaxing net ask here unfound best' previous' tree'
+pub record EdgesRelaxed (ask : Ask) (here : Reached) (unfound best previous best' previous' tree' : List ℕ) : Type 0 where
+  pub relaxed : Relaxed (edge_of (bicycle (network_in ask)) ask.tolerance) (feet_of (network_in ask)) ask.runs here.run here.label best previous best' previous'
+  pub settling : Relaxing ask here unfound best' previous' tree'
 
 -- The labels have room for one run more by way of the run that is settled.
 pub record LabelRoom (ask : Ask) (here : Reached) (best previous : List ℕ) : Type 0 where
@@ -121,10 +118,10 @@ pub record LabelRoom (ask : Ask) (here : Reached) (best previous : List ℕ) : T
   pub scratch : Room ask.runs best previous
 
 -- The way back was labelled: it stands at the entry of the leg of arrival.
-abbrev pub BackLabelled : List ℕ → List ℕ → Reached → List ℕ → List ℕ → List ℕ → List ℕ → Type 0
-BackLabelled net index here best previous best' previous' =
-    Offer to_each (feet_of net) here.run here.label (at index (here.node * 8 + here.leg)) best previous best' previous'
+abbrev pub BackLabelled : Ask → Reached → List ℕ → List ℕ → List ℕ → List ℕ → Type 0
+BackLabelled ask here best previous best' previous' =
+    Offer to_each (feet_of (network_in ask)) here.run here.label (at (index_in ask) (here.node * 8 + here.leg)) best previous best' previous'
 
-abbrev pub Spreads : List ℕ → Ask → Reached → List ℕ → List ℕ → List ℕ → List ℕ → List ℕ → List ℕ → List ℕ → Type 0
-Spreads net ask here best previous unfound best' previous' tree' unfound' =
-    Spread net ask.tolerance ask.runs here.run here.label best previous unfound best' previous' tree' unfound'
+abbrev pub Spreads : Ask → Reached → List ℕ → List ℕ → List ℕ → List ℕ → List ℕ → List ℕ → List ℕ → Type 0
+Spreads ask here best previous unfound best' previous' tree' unfound' =
+    Spread (network_in ask) ask.tolerance ask.runs here.run here.label best previous unfound best' previous' tree' unfound'

@@ -10,13 +10,12 @@ use Rattle.queue.specs.Steps.Queue.{top}
 use Rattle.network.specs.Network.{nodes_of}
 use Rattle.search_labels.specs.Steps.Labels.{Room}
 use Rattle.search_relaxing.specs.declared.Ask.{Ask}
-use Rattle.search_relaxing.specs.Steps.Counted.{Ready}
+use Rattle.search_relaxing.specs.Steps.Counted.{network_in}
 use Rattle.search_relaxing.specs.Steps.Unfound.{Unknown}
 
 -- A question in order: tolerances from 1 up, a node of the network to find, and no limit.
-pub record Question (net index : List ℕ) (ask : Ask) (to : ℕ) : Type 0 where
-  pub ready : Ready net index ask
-  pub to_node : to < nodes_of net
+pub record Question (ask : Ask) (to : ℕ) : Type 0 where
+  pub to_node : to < nodes_of (network_in ask)
   pub low : 1 ≤ ask.least
   pub order : ask.least ≤ ask.tolerance
   pub whole : ask.limit ≡ top
@@ -27,8 +26,8 @@ pub record Rooms (n : ℕ) (best previous buffer : List ℕ) (place : ℕ) : Typ
   pub buffer_fits : place + n ≤ length buffer
 
 -- No node is a goal yet.
-abbrev pub Unmarked : List ℕ → List ℕ → Type 0
-Unmarked net goals = Unknown (nodes_of net) goals
+abbrev pub Unmarked : Ask → List ℕ → Type 0
+Unmarked ask goals = Unknown (nodes_of (network_in ask)) goals
 
 -- The run arrives at b.
 unfoldable pub arrives_at : Streets → ℕ → ℕ → Bool

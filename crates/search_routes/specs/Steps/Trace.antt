@@ -3,8 +3,8 @@
 use Rattle.std.specs.Prelude.{List, ℕ, ◌≤◌, length}
 use Rattle.lists.specs.Lists.{at}
 use Rattle.routes.specs.Steps.Labels.{Depth}
-use Rattle.network.specs.Steps.Corners.{IndexOf}
-use Rattle.search_relaxing.specs.Steps.Counted.{most_runs, Counted}
+use Rattle.search_relaxing.specs.declared.Ask.{Ask}
+use Rattle.search_relaxing.specs.Steps.Counted.{most_runs}
 
 -- The chain of `previous` from r has k runs, at most n.
 pub record Traced (n : ℕ) (previous : ℕ → ℕ) (r k : ℕ) : Type 0 where
@@ -23,8 +23,6 @@ pub record Fillable (n : ℕ) (previous : List ℕ) (r k : ℕ) (tail : List ℕ
   pub traced : Traced n (at previous) r k
 
 -- The level of the chain of k runs from r may be told: it is one of runs of a network.
-pub record Levellable (net index : List ℕ) (n : ℕ) (previous : List ℕ) (r k : ℕ) : Type 0 where
-  pub counted : Counted net n
-  pub indexed : IndexOf net index
-  pub long : n ≤ length previous
-  pub traced : Traced n (at previous) r k
+pub record Levellable (ask : Ask) (previous : List ℕ) (r k : ℕ) : Type 0 where
+  pub long : ask.runs ≤ length previous
+  pub traced : Traced ask.runs (at previous) r k

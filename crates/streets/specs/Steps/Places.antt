@@ -1,22 +1,17 @@
--- What the code learns of a run beside its values: that a frame lies inside the network, that a node and a leg are in their ranges; and what a run
--- meets where it arrives.
+-- What the code learns of a run beside its values: which frame is its segment's, that a node and a leg are in their ranges; and what a run meets where it
+-- arrives.
 -- Assumes nothing.
-use Rattle.std.specs.Prelude.{ℕ, ◌+◌, ◌*◌, ◌≤◌, ◌<◌, max, ◌≡◌, cond, Bool, true, not, List, eqb, length, get_or}
-use Rattle.frames.specs.Edition.{frame_bytes}
-use Rattle.frames.specs.Frame.{head_bytes}
+use Rattle.std.specs.Prelude.{ℕ, ◌<◌, max, ◌≡◌, cond, Bool, true, not, List, eqb, get_or}
+use Rattle.frames.specs.declared.frame.Frame.{Frame}
 use Rattle.network.specs.Legs.{corner}
-use Rattle.network.specs.Network.{edition_of, nodes_of, segments_of, is_network}
+use Rattle.network.specs.Network.{edition_of, nodes_of, frame_of, is_network}
 use Rattle.streets.specs.declared.movements.Approach.{Approach}
 use Rattle.streets.specs.declared.movements.Arrival.{Arrival}
 use Rattle.streets.specs.Exits.{right_hand_exit}
 use Rattle.streets.specs.Runs.{runs_of, finish, arrival_leg}
 use Rattle.streets.specs.Bicycle.{arrival_turn_level, arrival_crossing_level}
 
--- A segment, and a run, of a network that Read could keep.
-pub record SegmentOf (net : List ℕ) (s : ℕ) : Type 0 where
-  pub network : is_network net ≡ true
-  pub inside : s < segments_of net
-
+-- A run of a network that Read could keep.
 pub record RunOf (net : List ℕ) (r : ℕ) : Type 0 where
   pub network : is_network net ≡ true
   pub inside : r < runs_of net
@@ -25,14 +20,10 @@ pub record RunOf (net : List ℕ) (r : ℕ) : Type 0 where
 abbrev pub used_in : List ℕ → ℕ → ℕ → Bool
 used_in index node leg = not (eqb (get_or index (corner node leg) 0) 0)
 
--- Where the frame of segment s begins.
-abbrev pub frame_place : List ℕ → ℕ → ℕ
-frame_place net s = head_bytes + frame_bytes (edition_of net) * s
-
--- The frame of segment s begins at a place, and lies inside the network.
-pub record SegmentAt (net : List ℕ) (s place : ℕ) : Type 0 where
-  pub is : place ≡ frame_place net s
-  pub room : place + frame_bytes (edition_of net) ≤ length net
+-- This is the frame of segment s, of the network's edition.
+pub record FrameOf (net : List ℕ) (s : ℕ) (f : Frame) : Type 0 where
+  pub bytes : f.bytes.now ≡ frame_of net s
+  pub edition : f.edition ≡ edition_of net
 
 -- r is this node of the network.
 pub record NodeOf (net : List ℕ) (node r : ℕ) : Type 0 where

@@ -5,10 +5,10 @@ use Rattle.refusals.specs.declared.Refusal.{Refusal}
 use Rattle.refusals.specs.Numbers.{number_of}
 use Rattle.frames.specs.declared.Head.{Head}
 use Rattle.frames.specs.Frame.{head_bytes, edition, nodes, segments}
-use Rattle.frames.specs.Ranges.{head_ok}
 use Rattle.frames.specs.Faults.{framed}
 use Rattle.network.specs.Steps.Checks.{claimed, index_fault}
 use Rattle.digits.specs.Digits.{line_of, bytes_of}
+use Rattle.text.specs.declared.GoodHead.{GoodHead}
 use Rattle.text.specs.Read.{Reading, refused, segment_lines, read_of}
 
 -- The bytes of a text's first line.
@@ -39,10 +39,9 @@ abbrev pub lines_after : List ℕ → List ℕ → Reading
 lines_after h text = segment_lines (edition h) (nodes h) (segments h) 2 [] h text
 
 -- Line 1 judged, and the room for the network that its head says: a fault decides, else the lines after the head do.
-abbrev pub HeadJudged : List ℕ → ℕ → List ℕ → Result ⊤ Refusal → Type 0
-HeadJudged text room first (Ok _) =
-    (2 * head_bytes + 1 ≤ length text) × (head_ok first ≡ true) × (read_of text room ≡ lines_after first (drop (2 * head_bytes + 1) text))
-HeadJudged text room first (Err fault) = read_of text room ≡ refused (number_of fault) 1
+abbrev pub HeadJudged : List ℕ → ℕ → Result GoodHead Refusal → Type 0
+HeadJudged text room (Ok first) = (2 * head_bytes + 1 ≤ length text) × (read_of text room ≡ lines_after first.bytes (drop (2 * head_bytes + 1) text))
+HeadJudged text room (Err fault) = read_of text room ≡ refused (number_of fault) 1
 
 -- The fault of the line of segment s, after this head, by the corner index.
 abbrev pub fault_after : Head → ℕ → List ℕ → List ℕ → ℕ

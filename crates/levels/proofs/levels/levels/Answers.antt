@@ -7,8 +7,11 @@ use Rattle.levels.proofs.levels.levels.Goals as goal
 pub slice_bounds-net-end : goal.slice_bounds-net-end
 slice_bounds-net-end c = (kept_front c.in-Ok.is c.read.ensures).1
 
+pub invariant_of-net : goal.invariant_of-net
+invariant_of-net c = record { kept = (kept_front c.in-Ok.is c.read.ensures).0 }
+
 pub put_levels-requires : goal.put_levels-requires
-put_levels-requires c = ((kept_front c.in-Ok.is c.read.ensures).0, c.new-page.ensures)
+put_levels-requires c = c.new-page.ensures
 
 pub returns-in-Err : goal.returns-in-Err
 returns-in-Err c = c.put_refusal.ensures ∙ prints_refusal c.read.ensures refl c.in-Err.is

@@ -4,14 +4,12 @@ use Rattle.levels.proofs.Printing.{no_lines, lines_more, page_enough}
 use Rattle.levels.proofs.levels.put_levels.Goals as goal
 
 pub loop-segment-init : goal.loop-segment-init
-loop-segment-init c = (c.requires.1 ∙ sym (no_lines _ _), omega (arith, ap length c.requires.1))
+loop-segment-init c = (c.requires ∙ sym (no_lines _ _), omega (arith, ap length c.requires))
 
 pub put_level-requires : goal.put_level-requires
 put_level-requires c =
-    let few = page_enough c.args.net.now c.requires.0 in (
-      record { network = c.requires.0; inside = omega (arith, c.segments_of-segment-end.ensures) },
-      omega (arith, c.loop-segment.invariant.1, c.segments_of-segment-end.ensures, few),
-    )
+    let few = page_enough c.args.net.now.bytes.now c.args.net.now.kept in
+    (omega (arith, c.segments-segment-end.ensures), omega (arith, c.loop-segment.invariant.1, c.segments-segment-end.ensures, few))
 
 pub loop-segment-preserved : goal.loop-segment-preserved
 loop-segment-preserved c =
@@ -19,5 +17,5 @@ loop-segment-preserved c =
 
 pub returns : goal.returns
 returns c =
-    let all : c.loop-segment.segment ≡ c.segments_of-segment-end.result = omega arith in
-    rw (all, c.segments_of-segment-end.ensures) at c.loop-segment.invariant.0
+    let all : c.loop-segment.segment ≡ c.segments-segment-end.result = omega arith in
+    rw (all, c.segments-segment-end.ensures) at c.loop-segment.invariant.0

@@ -6,4 +6,4 @@ use Rattle.levels.proofs.levels.put_levels.Given as goal
 
 abbrev pub invariant-loop-segment : goal.invariant-loop-segment
 invariant-loop-segment l =
-    (l.page.bytes ≡ level_lines l.net 0 l.segment) × (array_string_len l.page ≤ 63 * l.segment)
+    (l.page.bytes ≡ level_lines l.net.bytes.now 0 l.segment) × (array_string_len l.page ≤ 63 * l.segment)

@@ -8,36 +8,33 @@ pub returns-then-marks-from-ne0 : goal.returns-then-marks-from-ne0
 returns-then-marks-from-ne0 c =
     start_near c.requires.0 (marked _ _ c.if-marks-from-ne0.true)
 
+pub invariant_of-search : goal.invariant_of-search
+invariant_of-search c =
+    record {
+      sought = record { marks = c.requires.2.fits; apart = not_marked _ _ c.if-marks-from-ne0.false; limited = omega (arith, c.requires.0.whole) };
+    }
+
 pub explore-requires : goal.explore-requires
 explore-requires c =
-    let A = c.requires.0 in (
-      record {
-        ready = A.ready;
-        marks = c.requires.2.fits;
-        apart = not_marked _ _ c.if-marks-from-ne0.false;
-        limited = omega (arith, A.whole);
-      },
-      c.requires.1,
-      omega (arith, A.one),
-    )
+    (c.requires.1, omega (arith, c.requires.0.one))
 
 pub returns-in_err-met : goal.returns-in_err-met
 returns-in_err-met c =
     let A = c.requires.0 in
     let s = c.in_err-met.ensures in
-    rw c.from_residual.ensures (stop_none_marked A c.requires.2 (not_marked _ _ c.if-marks-from-ne0.false) s.2 (omega (arith, s.1, A.whole)))
+    rw c.from_residual.ensures (stop_none_marked A _ (not_marked _ _ c.if-marks-from-ne0.false) s.2 (omega (arith, s.1, A.whole)))
 
 pub first_near-requires : goal.first_near-requires
 first_near-requires c =
-    rw c.nodes_of.ensures (all_markable c.requires.0 c.requires.2 (omega (arith, c.requires.1.best_fits, c.explore.auto.best)))
+    rw c.nodes.ensures (all_markable c.requires.2 (omega (arith, c.requires.1.best_fits, c.explore.auto.best)))
 
 pub returns-in_err-node : goal.returns-in_err-node
 returns-in_err-node c =
     let A = c.requires.0 in
     let M = c.in_ok-met.ensures in
     absurd
-    (stop_some_near A c.requires.2 (not_marked _ _ c.if-marks-from-ne0.false) (stop_met A.one M) (omega (arith, M.below_limit, A.whole))
-    (rw (c.nodes_of.ensures, c.label_in-length.ensures) at c.in_err-node.ensures))
+    (stop_some_near A _ (not_marked _ _ c.if-marks-from-ne0.false) (stop_met A.one M) (omega (arith, M.below_limit, A.whole))
+    (rw (c.nodes.ensures, c.label_in-length.ensures) at c.in_err-node.ensures))
 
 pub returns : goal.returns
 returns c =
@@ -45,5 +42,5 @@ returns c =
     let M = c.in_ok-met.ensures in
     let label = c.label_in-length.ensures in
     rw label
-    (stop_near A c.requires.2 (not_marked _ _ c.if-marks-from-ne0.false) (stop_met A.one M) (omega (arith, M.below_limit, A.whole))
-    (rw (c.nodes_of.ensures, label) at c.in_ok-node.ensures))
+    (stop_near A _ (not_marked _ _ c.if-marks-from-ne0.false) (stop_met A.one M) (omega (arith, M.below_limit, A.whole))
+    (rw (c.nodes.ensures, label) at c.in_ok-node.ensures))

@@ -2,36 +2,28 @@
 -- judged, and written into the tail of the buffer; or it ends, and there is no route.
 use mathlib.Core.Path.{refl}
 use lib.ListN.{length-take, length-drop}
-use Rattle.search_routes.proofs.Stopping.{stay_written}
 use Rattle.search_routes.proofs.OneGoal.{sought, none_there, met_ends, first_found}
 use Rattle.search_routes.proofs.Tracing.{tail_placed}
-use Rattle.search_relaxing.proofs.CountedLaws.{few_runs}
+use Rattle.search_relaxing.proofs.CountedLaws.{few_runs, ask_counted}
 use native.Mathlib.Omega.{arith}
 use Rattle.search_routes.proofs.find.find.Goals as goal
 
-pub returns-then-ask-to : goal.returns-then-ask-to
-returns-then-ask-to c =
-    let Q = c.requires.0 in
-    rw c.stay.ensures
-    (record {
-      low = omega arith;
-      high = Q.order;
-      none_below = λ h. absurd (omega arith);
-      written = stay_written _ _ _ _ _ _ Q.low c.if-ask-to.true;
-    })
+pub invariant_of-search : goal.invariant_of-search
+invariant_of-search c =
+    record { sought = sought c.requires.0 c.requires.2 c.if-ask-to.false }
 
 pub explore-requires : goal.explore-requires
 explore-requires c =
-    (sought c.requires.0 c.requires.2 c.if-ask-to.false, c.requires.1.scratch, c.requires.0.order)
+    (c.requires.1.scratch, c.requires.0.order)
 
 pub returns-in_err-met : goal.returns-in_err-met
 returns-in_err-met c =
     let s = c.in_err-met.ensures in
-    rw c.from_residual.ensures (refl, none_there c.requires.0 c.requires.2 c.args.ask.tolerance c.if-ask-to.false s.1 s.2)
+    rw c.from_residual.ensures (refl, none_there c.requires.0 c.requires.2 _ c.if-ask-to.false s.1 s.2)
 
 pub count_runs-count-requires : goal.count_runs-count-requires
 count_runs-count-requires c = (
-  few_runs c.requires.0.ready.counted,
+  few_runs (ask_counted c.args.ask.now),
   omega (arith, c.requires.1.scratch.previous_fits, c.explore.auto.previous),
   rw c.run_in-last.ensures (met_ends c.requires.0 c.requires.2 c.in_ok-met.ensures),
 )
@@ -40,7 +32,7 @@ pub fill-requires : goal.fill-requires
 fill-requires c =
     let K = c.count_runs-count.ensures in
     record {
-      few = few_runs c.requires.0.ready.counted;
+      few = few_runs (ask_counted c.args.ask.now);
       long = omega (arith, c.requires.1.scratch.previous_fits, c.explore.auto.previous);
       fits = simp (length-take, length-drop) (omega (arith, c.requires.1.buffer_fits, K.few));
       traced = K;

@@ -2,9 +2,10 @@
 -- chain it is the level of the whole route.
 use Rattle.lists.specs.Lists.{at}
 use Rattle.streets.specs.Bicycle.{bicycle}
+use Rattle.search_relaxing.specs.Steps.Counted.{network_in}
 use Rattle.search_routes.proofs.Levels.{Levelled}
 use Rattle.search_routes.proofs.trace.route_level.Given as goal
 
 abbrev pub invariant-loop : goal.invariant-loop
 invariant-loop l =
-    Levelled (bicycle l.net) l.n (at l.previous) l.count l.last l.counter l.next l.level
+    Levelled (bicycle (network_in l.ask)) l.ask.runs (at l.previous) l.count l.last l.counter l.next l.level

@@ -2,7 +2,6 @@
 use Rattle.std.proofs.lemmas.Result.{err_from_is_err_and}
 use Rattle.splicereel.proofs.MemoryLaws.{unmarked}
 use mathlib.Core.Path.{refl}
-use native.Mathlib.Omega.{arith}
 use borrow.Author.Rules.{rules}
 use Rattle.splicereel.proofs.reach_map.reach_map_in.Goals as goal
 
@@ -14,4 +13,12 @@ returns-in_err-ask g c =
 pub reach-requires : goal.reach-requires
 reach-requires g c =
     let A = c.in_ok-ask.ensures in
-    (A.asked, A.scratch, unmarked c.requires.1 c.unknown-goals.ensures A.asked.ready.counted.network, search rules)
+    (A.asked, A.scratch, unmarked c.in_ok-ask.ask.streets.net.kept A.network c.requires.1 c.unknown-goals.ensures, search rules)
+
+pub returns-in_err-check_entries : goal.returns-in_err-check_entries
+returns-in_err-check_entries g c =
+    rw (← c.in_ok-ask.ensures.network) (search rules)
+
+pub returns : goal.returns
+returns g c =
+    rw (← c.in_ok-ask.ensures.network) (search rules)

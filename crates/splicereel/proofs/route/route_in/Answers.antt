@@ -1,6 +1,7 @@
 -- The search may be asked; and what it answers is what is promised.
 use Rattle.std.specs.Option.{option_map}
 use Rattle.std.proofs.Common.{◌≡◌, rules}
+use mathlib.Core.Path.{refl}
 use native.Mathlib.Omega.{arith}
 use Rattle.routes.specs.declared.LeastRoute.{LeastRoute}
 use Rattle.splicereel.specs.Finding.{nodes_refusal, route_refusal}
@@ -10,20 +11,19 @@ use Rattle.splicereel.proofs.route.route_in.Goals as goal
 
 pub find-least-requires : goal.find-least-requires
 find-least-requires g c =
-    let N = c.in_ok-counts.ensures.1 in
     let T = c.in_ok-tolerance.ensures in (
-      in_order N c.in_ok-check_node.ensures.0 c.in_ok-check_node-2.ensures.0 (low_enough c.args.tolerance T.0 T.1) (omega arith),
+      in_order c.nodes-nodes.ensures c.in_ok-check_node-2.ensures.0 (low_enough c.args.tolerance T.0 T.1) (omega arith) refl,
       rooms c.in_ok-check_room.ensures.0,
-      unmarked c.requires.1 c.unknown-goals.ensures N.network,
+      unmarked c.in_ok-streets.streets.net.kept c.in_ok-streets.ensures.1 c.requires.1 c.unknown-goals.ensures,
     )
 
 pub returns : goal.returns
 unfolding route_refusal nodes_refusal
 returns g c =
-    let N = c.in_ok-counts.ensures.1 in
+    let net = c.in_ok-streets.ensures.1 in
     let T = c.in_ok-tolerance.ensures in
     let same : c.map.result ≡ option_map (λ (told : LeastRoute). told.route) c.find-least.result = search rules in
-    rw same
+    rw (same, ← net)
     (route_answers c.find-least.result
-    (rw (N.network, ← N.nodes, c.in_ok-check_node.ensures.0, c.in_ok-check_node-2.ensures.0, T.0, ← N.runs, c.in_ok-check_room.ensures.0))
+    (rw (c.in_ok-streets.streets.net.kept, ← c.nodes-nodes.ensures, c.in_ok-check_node.ensures.0, c.in_ok-check_node-2.ensures.0, T.0, ← c.runs-runs.ensures, c.in_ok-check_room.ensures.0))
     T.1 c.find-least.ensures)

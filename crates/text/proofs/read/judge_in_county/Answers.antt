@@ -5,4 +5,4 @@ use Rattle.text.proofs.read.judge_in_county.Goals as goal
 
 pub judge_in-requires : goal.judge_in-requires
 judge_in-requires c =
-    (c.requires, (head_limits c.args.first.now c.requires).few_nodes, omega arith)
+    ((head_limits c.args.first.now.bytes c.args.first.now.good).few_nodes, omega arith)

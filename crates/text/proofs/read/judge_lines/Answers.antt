@@ -2,19 +2,17 @@
 use Prim.Native.Nat.{ℕ, ◌+◌, ◌*◌, ◌≤◌}
 use lib.ListN.{length}
 use mathlib.Core.List.{List, []}
-use mathlib.Core.Path.{◌≡◌, refl, sym, ◌∙◌, subst}
+use mathlib.Core.Path.{◌≡◌, subst}
 use native.Mathlib.Omega.{arith}
 use borrow.Author.Rules.{rules}
 use Rattle.frames.specs.declared.Head.{Head}
 use Rattle.frames.specs.Frame.{edition, nodes, segments}
 use Rattle.frames.specs.Decoded.{head_fields}
-use Rattle.frames.proofs.FrameLaws.{limited}
-use Rattle.network.specs.Steps.Corners.{Indexed}
 use Rattle.text.specs.Read.{segment_lines}
 use Rattle.text.specs.Told.{ReadTold, told_of, refused_at}
 use Rattle.std.proofs.lemmas.Result.{err_from_is_err_and}
 use Rattle.text.proofs.LineLaws.{no_text, some_text, was_ok, was_err}
-use Rattle.text.proofs.LinesRead.{starts, goes_on, room, refuses, lacks, keeps}
+use Rattle.text.proofs.LinesRead.{room, refuses, lacks, keeps}
 use Rattle.std.specs.Prelude.{Ok}
 use Rattle.text.proofs.read.judge_lines.Goals as goal
 use Rattle.text.proofs.read.judge_lines.Goals.{In_ok-map_err}
@@ -23,14 +21,6 @@ as_head : {r : ReadTold} {head : Head} (h u : List ℕ) → head ≡ head_fields
     → r ≡ told_of (segment_lines head.edition head.nodes head.segments 2 [] h u)
     → r ≡ told_of (segment_lines (edition h) (nodes h) (segments h) 2 [] h u)
 as_head {r} h u p x = subst (λ (a : Head). r ≡ told_of (segment_lines a.edition a.nodes a.segments 2 [] h u)) p x
-
-pub loop-rest-init : goal.loop-rest-init
-loop-rest-init c =
-    let is = c.head_of-head.ensures in (
-      starts (search rules) (limited c.args.first.now is c.requires.0)
-          (subst (λ (x : Head). Indexed x.nodes [] c.args.index.now) (sym is) c.requires.1),
-      refl,
-    )
 
 pub returns-in_err-map_err : goal.returns-in_err-map_err
 returns-in_err-map_err c =
@@ -54,13 +44,6 @@ slice_bounds-rest-count c = line_fits c
 
 pub slice_bounds-rest-start : goal.slice_bounds-rest-start
 slice_bounds-rest-start c = omega (arith, line_fits c)
-
-pub loop-rest-preserved : goal.loop-rest-preserved
-loop-rest-preserved c =
-    let after = (goal.at.loop-rest-preserved c).In_ok-map_err in (
-      goes_on c.loop-rest.invariant.0 c.segment_line.ensures (was_read after) c.frame_bytes.ensures.is (some_text _ c.is_empty.ensures c.loop-rest-test.true),
-      c.segment_line.auto.index ∙ c.loop-rest.invariant.1,
-    )
 
 pub returns-then-s-head : goal.returns-then-s-head
 returns-then-s-head c =

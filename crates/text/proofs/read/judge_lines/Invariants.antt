@@ -6,7 +6,7 @@ use Rattle.text.proofs.read.judge_lines.Given as goal
 
 abbrev pub invariant-loop-rest : goal.invariant-loop-rest
 invariant-loop-rest l =
-    Going l.first l.lines l.head l.s l.rest l.index × (length l.index ≡ length l.initial.index)
+    Going l.first.bytes l.lines l.head l.s l.rest l.index × (length l.index ≡ length l.initial.index)
 
 abbrev pub decreases-loop-rest : goal.decreases-loop-rest
 decreases-loop-rest l =

@@ -5,7 +5,6 @@ use mathlib.Core.List.{List, ◌++◌}
 use mathlib.Core.Path.{◌≡◌, refl, sym, ap, ◌∙◌, subst₂}
 use native.Mathlib.Omega.{arith}
 use lib.ListN.{length, drop}
-use Rattle.text.specs.declared.Refused.{Refused}
 use Rattle.frames.specs.declared.Head.{Head}
 use Rattle.frames.specs.Edition.{frame_bytes}
 use Rattle.frames.specs.Frame.{edition, segments}
@@ -14,14 +13,9 @@ use Rattle.digits.specs.Steps.Scan.{spelled}
 use Rattle.text.specs.Read.{Reading, read_of, kept}
 use Rattle.text.specs.Told.{told, told_of, written, output_of, ReadDid}
 use Rattle.text.specs.Steps.Spelled.{spelled_text}
-use Rattle.text.proofs.KeptText.{TextKept, text_kept, was_refused, was_kept}
-use Rattle.std.specs.Prelude.{Ok, Err}
-use Rattle.std.proofs.lemmas.Result.{err_from_is_err_and}
+use Rattle.text.proofs.KeptText.{TextKept, text_kept, was_kept}
+use Rattle.std.specs.Prelude.{Ok}
 use Rattle.text.proofs.read.read.Goals as goal
-
-refuses : {t o : List ℕ} {why : Refused} → told (Err why) ≡ told_of (read_of t (length o)) → ReadDid t o o (Err why)
-refuses {t} {o} {why} e =
-    record { answer = e; output = ap (λ (x : Reading). output_of x o) (sym (was_refused (read_of t (length o)) why e)) }
 
 record Keeps (t : List ℕ) (room count : ℕ) : Type 0 where
   b : List ℕ
@@ -66,11 +60,6 @@ write_frames-requires c =
     let kept-here = keeps (ap told (sym c.in_ok-count.was) ∙ c.judge_text.ensures) in
     let r = rooms kept-here c.decode_into.ensures.bytes c.frame_bytes.ensures.is c.head_of-head.ensures in
     (r.0, r.1, c.frame_bytes.ensures.most)
-
-pub returns-in_err-count : goal.returns-in_err-count
-returns-in_err-count c =
-    let p = err_from_is_err_and c.from_residual.result c.from_residual.ensures.1 in
-    rw (p.1, p.2) (refuses (ap told (sym c.in_err-count.was) ∙ c.judge_text.ensures))
 
 pub returns : goal.returns
 returns c =

@@ -1,0 +1,81 @@
+// A kept network, and its streets: the network with the index of its corners.
+ghost use Rattle.std.specs.Prelude.{◌<◌, ◌≡◌, true, false, MatchOption};
+ghost use Rattle.network.specs.Network.{nodes_of, segments_of, is_network};
+ghost use Rattle.network.specs.Steps.Corners.{IndexOf};
+ghost use Rattle.network.specs.Steps.Checks.{Awaits};
+ghost use Rattle.streets.specs.Runs.{runs_of};
+ghost use Rattle.streets.specs.Steps.Places.{FrameOf};
+
+use frames::edition::frame_bytes;
+use frames::fields;
+use frames::frame::{Frame, word_at};
+use network::kept::is_network;
+
+// Bytes that Read could keep.
+#[derive(Clone, Copy)]
+pub struct Network<'a> {
+    pub bytes: &'a [u8],
+    pub ghost kept: { is_network bytes.now ≡ true },
+}
+
+// A kept network with the index of its corners.
+#[derive(Clone, Copy)]
+pub struct Streets<'a> {
+    pub net: Network<'a>,
+    pub index: &'a [u16],
+    pub ghost indexed: { IndexOf net.bytes.now index.now },
+}
+
+#[tactic(auto, using(network::proofs::NetworkLaws::network_length, crate::proofs::EndLaws::frame_room, crate::proofs::EndLaws::segments_few))]
+impl<'a> Network<'a> {
+    // How many nodes it has.
+    pub fn nodes(&self) -> usize
+        ensures { result ≡ nodes_of self.now.bytes.now }
+    {
+        word_at(self.bytes, fields::NODES)
+    }
+
+    // How many segments it has.
+    pub fn segments(&self) -> usize
+        ensures { result ≡ segments_of self.now.bytes.now }
+    {
+        word_at(self.bytes, fields::SEGMENTS)
+    }
+
+    // Two for each segment.
+    pub fn runs(&self) -> usize
+        ensures { result ≡ runs_of self.now.bytes.now }
+    {
+        2 * self.segments()
+    }
+
+    // The frame of a segment.
+    pub fn frame_of(&self, segment: usize) -> Frame<'a>
+        requires { segment < segments_of self.now.bytes.now }
+        ensures { FrameOf self.now.bytes.now segment result }
+    {
+        let edition = self.bytes[fields::EDITION];
+        let size = frame_bytes(edition);
+        let start = fields::HEAD_BYTES + size * segment;
+        Frame {
+            bytes: &self.bytes[start..start + size],
+            edition,
+        }
+    }
+}
+
+impl<'a> Streets<'a> {
+    // The streets of a network, if the bytes are one; its corners are then in the index.
+    pub fn of(net: &'a [u8], index: &'a mut [u16]) -> Option<Streets<'a>>
+        requires { Awaits net.now index.old }
+        ensures { MatchOption result (is_network net.now ≡ false) (λ streets. streets.net.bytes.now ≡ net.now) }
+    {
+        if !is_network(net, index) {
+            return None;
+        }
+        Some(Streets {
+            net: Network { bytes: net },
+            index,
+        })
+    }
+}
