@@ -41,12 +41,8 @@ pub fn runs() -> [u16; BUFFER] {
 }
 
 // Every number is as it was lent.
-fn scratch_same(numbers: &[u32]) -> bool {
-    numbers.iter().all(|number| *number == SCRATCH)
-}
-
-fn runs_same(numbers: &[u16]) -> bool {
-    numbers.iter().all(|number| *number == RUN)
+fn same<T: Copy + PartialEq>(numbers: &[T], lent: T) -> bool {
+    numbers.iter().all(|number| *number == lent)
 }
 
 fn found(rt: &impl Print, route: Found) -> io::Result<()> {
@@ -62,7 +58,7 @@ fn refused(
     buffer: &[u16],
 ) -> io::Result<()> {
     print!(rt; "refused {} ", u8::from(refusal))?;
-    if scratch_same(best) & scratch_same(previous) & runs_same(buffer) {
+    if same(best, SCRATCH) & same(previous, SCRATCH) & same(buffer, RUN) {
         print!(rt; "untouched")
     } else {
         print!(rt; "written")
@@ -70,7 +66,7 @@ fn refused(
 }
 
 fn none(rt: &impl Print, buffer: &[u16]) -> io::Result<()> {
-    if runs_same(buffer) {
+    if same(buffer, RUN) {
         print!(rt; "none")
     } else {
         print!(rt; "none, written")
@@ -179,8 +175,7 @@ fn show_all(rt: &impl Print, net: &[u8]) -> io::Result<()> {
 
 fn main(rt: HostRuntime) -> io::Result<()> {
     let mut buffer = [0u8; 65536];
-    let count = input::read_full(&mut rt.stdin(), &mut buffer);
-    let text = &buffer[..count];
+    let text = input::read_full(&mut rt.stdin(), &mut buffer);
     let mut net = [0u8; 65536];
     match splicereel::read::read(text, &mut net) {
         Err(_) => println!(rt; "not read"),

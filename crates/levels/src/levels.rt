@@ -5,12 +5,16 @@ ghost use Rattle.refusals.specs.Numbers.{number_of};
 ghost use Rattle.arrayvec.specs.ArrayString.{array_string_len};
 ghost use Rattle.levels.specs.Levels.{level_line, level_lines, refused_line, levels_room, levels_of};
 
+use arrayvec::ArrayString;
 use frames::edition;
-use printing::{Page, put_field};
+use printing::put_field;
 use refusals::Refusal;
 use splicereel::read::read;
 use streets::kept::Network;
 use text::Refused;
+
+// What is printed: at most so many bytes, which lie in the value itself.
+pub type Page = ArrayString<65536>;
 
 // One line: a segment's number, level and measure.
 fn put_level(net: &Network, segment: usize, page: &mut Page)

@@ -1,4 +1,4 @@
-// Text put at the end of a page, for the programs.
+// Text put at the end of a page of any size, for the programs.
 #![tactic(auto)]
 
 ghost use Rattle.std.specs.Prelude.{◌≡◌, ◌+◌, ◌≤◌, ◌<◌, [], ◌∷◌, ◌++◌};
@@ -8,12 +8,9 @@ ghost use Rattle.printing.specs.Output.{decimal};
 use arrayvec::ArrayString;
 use itoa::Buffer;
 
-// Text of at most so many bytes, which lie in the value itself.
-pub type Page = ArrayString<65536>;
-
 // A number in decimal, and one character after it.
-pub fn put_field(n: usize, after: char, page: &mut Page)
-    requires room { array_string_len page.old + 21 ≤ 65536 }
+pub fn put_field<const CAP: usize>(n: usize, after: char, page: &mut ArrayString<CAP>)
+    requires room { array_string_len page.old + 21 ≤ CAP }
     requires ascii { after < 128 }
     ensures text { page.new.bytes ≡ page.old.bytes ++ (decimal 20 n ++ (after ∷ [])) }
     ensures len { array_string_len page.new ≤ array_string_len page.old + 21 }

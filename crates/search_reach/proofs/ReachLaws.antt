@@ -146,7 +146,7 @@ stop_met {ask = ask} {met = met} one M =
 pub stop_asked : (ask : Ask) (goals best previous : List ℕ) (met : Option Met) → Meets ask goals best previous met → ask.least ≡ ask.tolerance
     → (m : ℕ) × StopsAt ask ask.tolerance goals best previous m
 stop_asked ask goals best previous (Some met) M one = (met.key, stop_met one M)
-stop_asked ask goals best previous None M one = (M.0, M.2)
+stop_asked ask goals best previous None M one = (M.0.0, M.0.2)
 
 -- ---- the map
 pub clamped_small : (greatest : ℕ) → clamped greatest < unlabelled

@@ -14,28 +14,38 @@ fn label_behind(entry: u16, best: &[u32]) -> u32
     run_leaving(entry).map_or(NONE, |leaving| best[leaving ^ 1])
 }
 
-// The least label of the runs that arrive at a node; NONE where none of them has one.
-#[tactic(auto, using(crate::proofs::LabelsBehind::least_none, crate::proofs::LabelsBehind::least_more))]
-fn least_arrival(index: &[u16], best: &[u32], node: usize) -> u32
-    requires { LookedAt index.now best.now node }
-    ensures { result ≡ least_arrival index.now best.now node }
-{
-    let place = node * 8;
-    let mut least = NONE;
-    for entry in &index[place..place + 8] {
-        least = label_behind(*entry, best).min(least);
-    }
-    least
+// Lengths from a start, as the labels of a search have them: the corner index of the streets, the label of each run, and the start.
+#[derive(Clone, Copy)]
+pub struct Lengths<'a, 'b> {
+    pub index: &'a [u16],
+    pub best: &'b [u32],
+    pub from: usize,
 }
 
-// The length to a node: the start itself is 0 away.
-#[tactic(auto, using(std::proofs::lemmas::Bool::Decides::nat_tests), unfolding(crate::specs::Steps::Arrivals::length_to))]
-pub fn length_to(index: &[u16], best: &[u32], from: usize, node: usize) -> u32
-    requires { LookedAt index.now best.now node }
-    ensures { result ≡ length_to index.now best.now from node }
-{
-    if node == from {
-        return 0;
+impl Lengths<'_, '_> {
+    // The least label of the runs that arrive at a node; NONE where none of them has one.
+    #[tactic(auto, using(crate::proofs::LabelsBehind::least_none, crate::proofs::LabelsBehind::least_more))]
+    fn least_arrival(&self, node: usize) -> u32
+        requires { LookedAt self.now.index.now self.now.best.now node }
+        ensures { result ≡ least_arrival self.now.index.now self.now.best.now node }
+    {
+        let place = node * 8;
+        let mut least = NONE;
+        for entry in &self.index[place..place + 8] {
+            least = label_behind(*entry, self.best).min(least);
+        }
+        least
     }
-    least_arrival(index, best, node)
+
+    // The length to a node: the start itself is 0 away.
+    #[tactic(auto, using(std::proofs::lemmas::Bool::Decides::nat_tests), unfolding(crate::specs::Steps::Arrivals::length_to))]
+    pub fn length_to(&self, node: usize) -> u32
+        requires { LookedAt self.now.index.now self.now.best.now node }
+        ensures { result ≡ length_to self.now.index.now self.now.best.now self.now.from node }
+    {
+        if node == self.from {
+            return 0;
+        }
+        self.least_arrival(node)
+    }
 }

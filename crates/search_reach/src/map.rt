@@ -8,7 +8,7 @@ ghost use Rattle.search_relaxing.specs.Steps.Counted.{network_in};
 ghost use Rattle.search_routes.specs.Steps.Answered.{Unmarked};
 ghost use Rattle.search_reach.specs.Steps.Map.{clamped, ListRoom, AskedAt, Listable, NodeListed, Nodes, NodesListed};
 
-use crate::arrivals::length_to;
+use crate::arrivals::Lengths;
 use search_labels::{NONE, key_of};
 use search_relaxing::Ask;
 use search_rounds::search::Search;
@@ -20,47 +20,34 @@ fn clamp(greatest: usize) -> u32
     greatest.min(NONE as usize - 1) as u32
 }
 
-// Writes the entry of a node at a place of the list, if it is no farther, and gives the place behind it.
-fn list_node(
-    index: &[u16],
-    best: &[u32],
-    from: usize,
-    farthest: u32,
-    node: usize,
-    list: &mut [u32],
-    place: usize,
-) -> usize
-    requires { Listable index.now best.now node list.old place }
-    ensures { NodeListed index.now best.now from farthest node list.old list.new place result }
-{
-    let length = length_to(index, best, from, node);
-    if farthest < length {
-        return place;
+impl Lengths<'_, '_> {
+    // Writes the entry of a node at a place of the list, if it is no farther, and gives the place behind it.
+    fn list_node(&self, farthest: u32, node: usize, list: &mut [u32], place: usize) -> usize
+        requires { Listable self.now.index.now self.now.best.now node list.old place }
+        ensures { NodeListed self.now.index.now self.now.best.now self.now.from farthest node list.old list.new place result }
+    {
+        let length = self.length_to(node);
+        if farthest < length {
+            return place;
+        }
+        let number = node as u32;
+        list[place] = number;
+        list[place + 1] = length;
+        place + 2
     }
-    let number = node as u32;
-    list[place] = number;
-    list[place + 1] = length;
-    place + 2
-}
 
-// Writes the entries of all nodes, in rising order, and gives their number.
-#[tactic(auto, using(crate::proofs::Listing::listing_none, crate::proofs::Listing::listing_more))]
-fn list_nodes(
-    index: &[u16],
-    best: &[u32],
-    from: usize,
-    farthest: u32,
-    nodes: usize,
-    list: &mut [u32],
-) -> usize
-    requires { Nodes index.now best.now nodes list.old }
-    ensures { NodesListed index.now best.now from farthest nodes list.old list.new result }
-{
-    let mut place = 0;
-    for node in 0..nodes {
-        place = list_node(index, best, from, farthest, node, list, place);
+    // Writes the entries of all nodes, in rising order, and gives their number.
+    #[tactic(auto, using(crate::proofs::Listing::listing_none, crate::proofs::Listing::listing_more))]
+    fn list_nodes(&self, farthest: u32, nodes: usize, list: &mut [u32]) -> usize
+        requires { Nodes self.now.index.now self.now.best.now nodes list.old }
+        ensures { NodesListed self.now.index.now self.now.best.now self.now.from farthest nodes list.old list.new result }
+    {
+        let mut place = 0;
+        for node in 0..nodes {
+            place = self.list_node(farthest, node, list, place);
+        }
+        place / 2
     }
-    place / 2
 }
 
 // Lists the nodes within the tolerance and the greatest length, and gives the number of entries. It is the exploration with no goal, up to that length.
@@ -92,12 +79,10 @@ pub fn reach(
     };
     search.explore(best, previous);
     let streets = ask.streets;
-    list_nodes(
-        streets.index,
+    let lengths = Lengths {
+        index: streets.index,
         best,
-        ask.from,
-        farthest,
-        streets.net.nodes(),
-        list,
-    )
+        from: ask.from,
+    };
+    lengths.list_nodes(farthest, streets.net.nodes(), list)
 }

@@ -8,39 +8,34 @@ ghost use Rattle.search_relaxing.specs.Steps.Counted.{network_in};
 ghost use Rattle.search_reach.specs.Steps.Map.{AskedAt};
 ghost use Rattle.search_reach.specs.Steps.Nearest.{is_far, Marks, Markable, AllMarkable, FirstOf, Nearby};
 
-use crate::arrivals::length_to;
+use crate::arrivals::Lengths;
 use routes::Entry;
 use search_labels::label_in;
 use search_relaxing::Ask;
 use search_rounds::search::Search;
 
-// The node is not marked, or farther than the length.
-#[tactic(auto, unfolding(crate::specs::Steps::Nearest::is_far, routes::specs::Reach::is_marked))]
-fn is_far(index: &[u16], best: &[u32], from: usize, marks: &[u8], length: u32, node: usize) -> bool
-    requires { Markable index.now best.now marks.now node }
-    ensures { result ≡ is_far index.now best.now from marks.now length node }
-{
-    marks[node] == 0 || length < length_to(index, best, from, node)
-}
-
-// The first node, in rising order, that is marked and no farther than the length.
-fn first_near(
-    index: &[u16],
-    best: &[u32],
-    from: usize,
-    marks: &[u8],
-    length: u32,
-    nodes: usize,
-) -> Option<usize>
-    requires { AllMarkable index.now best.now marks.now nodes }
-    ensures { FirstOf index.now best.now from marks.now length nodes result }
-{
-    for node in 0..nodes {
-        if !is_far(index, best, from, marks, length, node) {
-            return Some(node);
-        }
+impl Lengths<'_, '_> {
+    // The node is not marked, or farther than the length.
+    #[tactic(auto, unfolding(crate::specs::Steps::Nearest::is_far, routes::specs::Reach::is_marked))]
+    fn is_far(&self, marks: &[u8], length: u32, node: usize) -> bool
+        requires { Markable self.now.index.now self.now.best.now marks.now node }
+        ensures { result ≡ is_far self.now.index.now self.now.best.now self.now.from marks.now length node }
+    {
+        marks[node] == 0 || length < self.length_to(node)
     }
-    None
+
+    // The first node, in rising order, that is marked and no farther than the length.
+    fn first_near(&self, marks: &[u8], length: u32, nodes: usize) -> Option<usize>
+        requires { AllMarkable self.now.index.now self.now.best.now marks.now nodes }
+        ensures { FirstOf self.now.index.now self.now.best.now self.now.from marks.now length nodes result }
+    {
+        for node in 0..nodes {
+            if !self.is_far(marks, length, node) {
+                return Some(node);
+            }
+        }
+        None
+    }
 }
 
 // The nearest marked node within the tolerance, with its least length. A start that is marked is its own nearest.
@@ -62,13 +57,11 @@ pub fn nearest(ask: &Ask, marks: &[u8], best: &mut [u32], previous: &mut [u32]) 
     let met = search.explore(best, previous)?;
     let length = label_in(met.key);
     let streets = ask.streets;
-    let node = first_near(
-        streets.index,
+    let lengths = Lengths {
+        index: streets.index,
         best,
         from,
-        marks,
-        length,
-        streets.net.nodes(),
-    )?;
+    };
+    let node = lengths.first_near(marks, length, streets.net.nodes())?;
     Some(Entry { node, length })
 }

@@ -28,8 +28,12 @@ module _ {ask : Ask} {goals : List ℕ} {best previous : List ℕ} where
       }
 
   pub lower_nothing : Meets (lower ask) goals best previous None → NoneBelow ask goals
-  lower_nothing m h = record { best = best; previous = previous; key = m.0; beyond = m.1; stop = m.2 }
+  lower_nothing m h = record { best = best; previous = previous; key = m.0.0; beyond = m.0.1; stop = m.0.2 }
 
   pub met_here : {key : ℕ} → ask.least ≤ ask.tolerance → NoneBelow ask goals → Stopped ask ask.tolerance goals best previous (Some key)
       → Meets ask goals best previous (Some (record { key = key; tolerance = ask.tolerance }))
   met_here l n s = record { low = l; high = omega arith; below_limit = s.0; stop = s.1; none_below = n }
+
+  -- a search at a tolerance met nothing: so it was, whatever is written over its labels
+  pub nothing_met : (t : ℕ) → Stopped ask t goals best previous None → NothingMet ask t goals
+  nothing_met t m = record { best = best; previous = previous; key = m.0; beyond = m.1; stop = m.2 }

@@ -30,7 +30,8 @@ impl Search<'_, '_> {
         self.goals[node] != 0
     }
 
-    // Settles runs in the order of their keys until the next one arrives at a goal, and gives its key; none where no key below the limit is left.
+    // Settles runs in the order of their keys until the next one arrives at a goal, and gives its key; none where no key below the limit is left. It asks a
+    // copy of its own: what stands behind a reference would be read again after each label that is written.
     pub fn search(
         &self,
         best: &mut [u32],

@@ -101,7 +101,8 @@ pub record MetAt (ask : Ask) (goals : List ℕ) (best previous : List ℕ) (met 
   -- of those below it, the greatest
   pub none_below : ask.least < met.tolerance → NothingMet ask (met.tolerance - 1) goals
 
--- None: the search at the greatest of them, which came last, met nothing.
+-- None: the search at the greatest of them, which came last, met nothing; nor did the one below it, where one was asked.
 abbrev pub Meets : Ask → List ℕ → List ℕ → List ℕ → Option Met → Type 0
 Meets ask goals best previous (Some met) = MetAt ask goals best previous met
-Meets ask goals best previous None = Stopped ask ask.tolerance goals best previous None
+Meets ask goals best previous None =
+    Stopped ask ask.tolerance goals best previous None × (ask.least < ask.tolerance → NothingMet ask (ask.tolerance - 1) goals)

@@ -21,7 +21,7 @@ explore-requires c =
 pub returns-in_err-met : goal.returns-in_err-met
 returns-in_err-met c =
     let A = c.requires.0 in
-    let s = c.in_err-met.ensures in
+    let s = c.in_err-met.ensures.0 in
     rw c.from_residual.ensures (stop_none_marked A _ (not_marked _ _ c.if-marks-from-ne0.false) s.2 (omega (arith, s.1, A.whole)))
 
 pub first_near-requires : goal.first_near-requires

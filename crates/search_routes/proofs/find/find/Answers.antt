@@ -18,7 +18,7 @@ explore-requires c =
 
 pub returns-in_err-met : goal.returns-in_err-met
 returns-in_err-met c =
-    let s = c.in_err-met.ensures in
+    let s = c.in_err-met.ensures.0 in
     rw c.from_residual.ensures (refl, none_there c.requires.0 c.requires.2 _ c.if-ask-to.false s.1 s.2)
 
 pub count_runs-count-requires : goal.count_runs-count-requires

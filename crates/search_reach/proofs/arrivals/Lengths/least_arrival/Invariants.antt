@@ -2,8 +2,8 @@
 use mathlib.Core.Path.{◌≡◌}
 use Prim.Native.Nat.{◌*◌}
 use Rattle.search_reach.specs.Steps.Arrivals.{least_behind}
-use Rattle.search_reach.proofs.arrivals.least_arrival.Given as goal
+use Rattle.search_reach.proofs.arrivals.Lengths.least_arrival.Given as goal
 
 abbrev pub invariant-loop-entry : goal.invariant-loop-entry
 invariant-loop-entry l =
-    l.least ≡ least_behind l.index l.best (l.node * 8) l.entry-index
+    l.least ≡ least_behind l.self.index.now l.self.best.now (l.node * 8) l.entry-index

@@ -3,8 +3,8 @@ use mathlib.Core.Path.{◌≡◌}
 use mathlib.Core.Bool.{true}
 use Prim.Native.Nat.{ℕ, ◌<◌}
 use Rattle.search_reach.specs.Steps.Nearest.{is_far}
-use Rattle.search_reach.proofs.nearest.first_near.Given as goal
+use Rattle.search_reach.proofs.arrivals.Lengths.first_near.Given as goal
 
 abbrev pub invariant-loop-node : goal.invariant-loop-node
 invariant-loop-node l =
-    (b : ℕ) → b < l.node → is_far l.index l.best l.from l.marks l.length b ≡ true
+    (b : ℕ) → b < l.node → is_far l.self.index.now l.self.best.now l.self.from l.marks l.length b ≡ true

@@ -2,8 +2,8 @@
 -- was. After the last node nothing is left. A place is at most two numbers for each node passed, so that the next entry has room.
 use Rattle.search_reach.specs.Steps.Arrivals.{length_to}
 use Rattle.search_reach.proofs.Listing.{Listing}
-use Rattle.search_reach.proofs.map.list_nodes.Given as goal
+use Rattle.search_reach.proofs.arrivals.Lengths.list_nodes.Given as goal
 
 abbrev pub invariant-loop-node : goal.invariant-loop-node
 invariant-loop-node l =
-    Listing (length_to l.index l.best l.from) l.farthest l.nodes l.initial.list l.list l.place l.node
+    Listing (length_to l.self.index.now l.self.best.now l.self.from) l.farthest l.nodes l.initial.list l.list l.place l.node
