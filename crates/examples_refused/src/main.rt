@@ -20,9 +20,9 @@ fn show(rt: &impl Print, text: &[u8], room: usize) -> io::Result<()> {
 
 fn main(rt: HostRuntime) -> io::Result<()> {
     let mut buffer = [0; 65536];
-    let text = input::read_full(&mut rt.stdin(), &mut buffer);
+    let count = input::read_full(&mut rt.stdin(), &mut buffer);
     for room in [0, 37, usize::MAX] {
-        show(&rt, text, room)?;
+        show(&rt, &buffer[..count], room)?;
     }
     Ok(())
 }

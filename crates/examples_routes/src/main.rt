@@ -175,7 +175,8 @@ fn show_all(rt: &impl Print, net: &[u8]) -> io::Result<()> {
 
 fn main(rt: HostRuntime) -> io::Result<()> {
     let mut buffer = [0u8; 65536];
-    let text = input::read_full(&mut rt.stdin(), &mut buffer);
+    let count = input::read_full(&mut rt.stdin(), &mut buffer);
+    let text = &buffer[..count];
     let mut net = [0u8; 65536];
     match splicereel::read::read(text, &mut net) {
         Err(_) => println!(rt; "not read"),

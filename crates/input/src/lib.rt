@@ -1,15 +1,15 @@
 // Standard input, for the programs. What a reader gives is put at the front of a lent slice, until the slice is full, the reader is at its end or a read fails.
 #![tactic(auto)]
 
-ghost use Rattle.std.specs.Prelude.{◌≤◌, length};
+ghost use Rattle.std.specs.Prelude.{◌≤◌, length, take};
 ghost use Rattle.std.specs.Io.KnownBytes.{Consumes};
 
 use std::io::Read;
 
-// The part of it that was filled.
-pub fn read_full<'a, R: Read>(input: &mut R, room: &'a mut [u8]) -> &'a [u8]
-    ensures inside { length result.now ≤ length room.old }
-    ensures bytes { Consumes (R.remaining input.old) (R.remaining input.new) result.now }
+// How many bytes were put there.
+pub fn read_full<R: Read>(input: &mut R, room: &mut [u8]) -> usize
+    ensures inside { result ≤ length room.new }
+    ensures bytes { Consumes (R.remaining input.old) (R.remaining input.new) (take result room.new) }
 {
     let mut count: usize = 0;
     while count < room.len() {
@@ -18,5 +18,5 @@ pub fn read_full<'a, R: Read>(input: &mut R, room: &'a mut [u8]) -> &'a [u8]
             Ok(more) => count += more,
         }
     }
-    &room[..count]
+    count
 }

@@ -7,8 +7,8 @@ mod levels;
 use std::io;
 
 fn main(rt: HostRuntime) -> io::Result<()> {
-    let mut buffer = [0u8; 65536];
-    let text = input::read_full(&mut rt.stdin(), &mut buffer);
-    let page = levels::levels(text);
+    let mut text = [0u8; 65536];
+    let count = input::read_full(&mut rt.stdin(), &mut text);
+    let page = levels::levels(&text[..count]);
     print!(rt; "{page}")
 }
