@@ -5,6 +5,7 @@ use frames::ranges::head_ok;
 use frames::{fields, sizes};
 use network::corners::{COUNTY_CORNERS, free_corners};
 use network::kept::is_kept_in_county;
+use network::legs::no_legs;
 use queue::TOP;
 use refusals::Refusal;
 use routes::{Found, LeastRoute};
@@ -26,8 +27,9 @@ pub fn differs(rt: &impl Print) -> io::Result<()> {
 
 // The least length that a search in a county's memory finds; none where it finds none or the question is not in order.
 fn least_length(net: &[u8], from: usize, to: usize, tolerance: u8) -> Option<u32> {
+    let mut legs = no_legs::<{ sizes::COUNTY }>();
     let mut index = free_corners::<COUNTY_CORNERS>();
-    let streets = Streets::of(net, &mut index)?;
+    let streets = Streets::indexed(net, &mut legs, &mut index)?;
     let nodes = streets.net.nodes();
     if from >= nodes || to >= nodes || from == to {
         return None;
@@ -40,6 +42,7 @@ fn least_length(net: &[u8], from: usize, to: usize, tolerance: u8) -> Option<u32
     let mut previous = scratch();
     let ask = Ask {
         streets,
+        index: &index,
         runs,
         least: tolerance,
         tolerance,

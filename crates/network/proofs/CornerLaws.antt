@@ -1,5 +1,5 @@
--- The corner index and the legs taken. An entry is 0 exactly where the corner is in no list of legs taken, so the index tests what `legs_free`
--- tests; claiming two free legs adds two corners in front, whose entries are the lengths of what comes after them.
+-- The index of runs and the legs taken. An entry is 0 exactly where the corner is not among those taken; entering the runs of a segment adds two corners
+-- in front, whose entries are the lengths of what comes after them.
 -- Assumes nothing.
 use Prim.Native.Nat.{ℕ, suc, ◌+◌, ◌*◌, ◌≤◌, ◌<◌}
 use mathlib.Core.Bool.{Bool, true, false, not, cond, ◌||◌}
@@ -12,15 +12,14 @@ use lib.Seq.{get_or-set_same, get_or-set_other}
 use borrow.Author.Tests.{eqb-true, eqb-false, ne_eqb}
 use Rattle.frames.specs.Ranges.{ends_ok}
 use Rattle.frames.proofs.FrameLaws.{EndLimits, end_limits}
-use Rattle.network.specs.Legs.{corner_a, corner_b, is_in, legs_free, taking}
-use Rattle.network.specs.Faults.{segment_fault}
-use Rattle.network.specs.Steps.Corners.{leaves, Indexed}
-use Rattle.network.specs.Steps.Checks.{free_in, claimed, index_fault}
+use Rattle.network.specs.Legs.{corner_a, corner_b, is_in, taking}
+use Rattle.network.specs.Steps.Taken.{ends_of}
+use Rattle.network.specs.Steps.Corners.{leaves, Indexed, with_runs}
 
 pub corners_few : (n : ℕ) (f : List ℕ) → ends_ok n f ≡ true → (corner_a f < n * 8) × (corner_b f < n * 8)
 corners_few n f e = let l : EndLimits n f = end_limits n f e in (omega arith, omega arith)
 
-free_is_new : (taken : List ℕ) (e : ℕ) → eqb (leaves taken e) 0 ≡ not (is_in e taken)
+pub free_is_new : (taken : List ℕ) (e : ℕ) → eqb (leaves taken e) 0 ≡ not (is_in e taken)
 unfolding leaves is_in
 free_is_new [] e = refl
 free_is_new (x ∷ xs) e = go (eqb e x) (free_is_new xs e)
@@ -35,25 +34,10 @@ none_indexed most n h =
     record { room = omega (arith, length-replicate {A = ℕ} most 0); entry = λ e l. get_or-replicate {A = ℕ} most e 0 0 (omega arith) }
 
 module _ {n : ℕ} {taken d : List ℕ} (w : Indexed n taken d) where
-  entry_free : (e : ℕ) → e < n * 8 → eqb (get_or d e 0) 0 ≡ not (is_in e taken)
-  entry_free e h = rw (w.entry e h) (free_is_new taken e)
-
-  index_free : (f : List ℕ) → corner_a f < n * 8 → corner_b f < n * 8 → free_in d f ≡ legs_free taken f
-  unfolding free_in legs_free
-  index_free f a b = rw (entry_free (corner_a f) a, entry_free (corner_b f) b)
-
-  pub index_fault_lem : (e : ℕ) (more : Bool) (f : List ℕ) → index_fault e n more d f ≡ segment_fault e n more taken f
-  unfolding segment_fault
-  index_fault_lem e more f = go (ends_ok n f) refl
-    where
-      go : (b : Bool) → ends_ok n f ≡ b → index_fault e n more d f ≡ segment_fault e n more taken f
-      go true q = rw (index_free f (corners_few n f q).0 (corners_few n f q).1)
-      go false q = rw q
-
-  claimed_entry : (s a b e : ℕ) → length taken ≡ 2 * s → a < n * 8 → b < n * 8 → e < n * 8
+  entered : (s a b e : ℕ) → length taken ≡ 2 * s → a < n * 8 → b < n * 8 → e < n * 8
       → get_or (set (set d a (s * 2 + 1)) b (s * 2 + 2)) e 0 ≡ leaves (b ∷ a ∷ taken) e
   unfolding leaves
-  claimed_entry s a b e l p q r = go (eqb e b) refl (eqb e a) refl
+  entered s a b e l p q r = go (eqb e b) refl (eqb e a) refl
     where
       go : (x : Bool) → eqb e b ≡ x → (y : Bool) → eqb e a ≡ y
           → get_or (set (set d a (s * 2 + 1)) b (s * 2 + 2)) e 0
@@ -70,10 +54,10 @@ module _ {n : ℕ} {taken d : List ℕ} (w : Indexed n taken d) where
           (get_or-set_other (set d a (s * 2 + 1)) b e (s * 2 + 2) 0 (eqb-false e b f)
           ∙ get_or-set_other d a e (s * 2 + 1) 0 (eqb-false e a g) ∙ w.entry e r)
 
-  pub claimed_indexed : (s : ℕ) (f : List ℕ) → length taken ≡ 2 * s → corner_a f < n * 8 → corner_b f < n * 8
-      → Indexed n (taking taken f) (claimed d s f)
-  claimed_indexed s f l a b =
+  pub entered_indexed : (s : ℕ) (f : List ℕ) → length taken ≡ 2 * s → corner_a f < n * 8 → corner_b f < n * 8
+      → Indexed n (taking taken f) (with_runs d s (ends_of f))
+  entered_indexed s f l a b =
       record {
         room = simp length-set w.room;
-        entry = λ e h. claimed_entry s (corner_a f) (corner_b f) e l a b h;
+        entry = λ e h. entered s (corner_a f) (corner_b f) e l a b h;
       }

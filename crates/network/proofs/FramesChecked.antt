@@ -1,5 +1,5 @@
--- The loop over a network's frames. What is left to test, with the legs taken so far, is the whole test, and the index is that of those legs; a
--- frame that passes is one step of `frames_ok` and of `corners_from`, and one that fails decides.
+-- The loop over a network's frames. What is left to test, with the legs taken so far, is the whole test, and the bytes have those legs, and an index that
+-- is filled their runs; a frame that passes is one step of `frames_ok` and of `corners_from`, and one that fails decides.
 -- Assumes nothing.
 use Prim.Native.Nat.{ℕ, suc, ◌+◌, ◌*◌, ◌-◌, ◌≤◌, ◌<◌}
 use mathlib.Core.Bool.{Bool, true, false, ◌&&◌}
@@ -16,37 +16,50 @@ use Rattle.lists.proofs.Lists.{true_is_false, is_false, times_next}
 use Rattle.frames.specs.declared.Head.{Head}
 use Rattle.frames.specs.Edition.{frame_bytes}
 use Rattle.frames.specs.Decoded.{head_fields}
-use Rattle.frames.specs.Ranges.{head_ok}
+use Rattle.frames.specs.Ranges.{head_ok, ends_ok}
 use Rattle.frames.specs.Faults.{framed}
 use Rattle.frames.specs.Steps.Sizes.{Limited}
 use Rattle.frames.proofs.FrameLaws.{framed_has, limited}
 use Rattle.frames.proofs.FaultLaws.{head_and}
+use Rattle.network.specs.declared.legs.Ends.{Ends}
 use Rattle.network.specs.Legs.{taking}
 use Rattle.network.specs.Faults.{segment_fault}
 use Rattle.network.specs.Network.{head_of, kept_bytes, frames_ok, is_network}
-use Rattle.network.specs.Steps.Corners.{Indexed, corners_from}
-use Rattle.network.specs.Steps.Checks.{claimed, index_fault, FramesChecked, Checked, SegmentChecked}
-use Rattle.network.proofs.CornerLaws.{corners_few, index_fault_lem, claimed_indexed}
+use Rattle.network.specs.Steps.Taken.{Gathered, ends_of, claimed}
+use Rattle.network.specs.Steps.Corners.{Indexed, RunsRoom, with_runs, corners_from}
+use Rattle.network.specs.Steps.Checks.{legs_fault, FramesIndexed, FramesChecked, Checked}
+use Rattle.network.proofs.TakenLaws.{legs_fault_lem, claimed_gathered}
+use Rattle.network.proofs.CornerLaws.{corners_few, entered_indexed}
 use Rattle.network.proofs.FaultLaws.{faultless}
 
 -- ---- the loop
-pub record Going (net : List ℕ) (head : Head) (s : ℕ) (d : List ℕ) : Type 0 where
+pub record Going (indexed : Bool) (net : List ℕ) (head : Head) (s : ℕ) (legs d : List ℕ) : Type 0 where
   pub taken : List ℕ
   pub runs : length taken ≡ 2 * s
   pub limited : Limited head
   pub long : length net ≡ 7 + frame_bytes head.edition * head.segments
-  pub indexed : Indexed head.nodes taken d
+  pub gathered : Gathered head.nodes taken legs
+  pub index : FramesIndexed indexed head.nodes taken d
   pub tests : frames_ok head.edition head.nodes (head.segments - s) taken (drop (7 + frame_bytes head.edition * s) net)
       ≡ frames_ok head.edition head.nodes head.segments [] (drop 7 net)
   pub corners : corners_from head.edition (head.segments - s) taken (drop (7 + frame_bytes head.edition * s) net)
       ≡ corners_from head.edition head.segments [] (drop 7 net)
 
-pub starts : {net : List ℕ} {head : Head} {d : List ℕ} → Limited head → length net ≡ 7 + frame_bytes head.edition * head.segments → Indexed head.nodes [] d
-    → Going net head 0 d
-starts {net} {head} p l x =
-    record { taken = []; runs = refl; limited = p; long = l; indexed = x; tests = rw (mul-zero, sub-zero); corners = rw (mul-zero, sub-zero) }
+pub starts : {indexed : Bool} {net : List ℕ} {head : Head} {legs d : List ℕ} → Limited head → length net ≡ 7 + frame_bytes head.edition * head.segments
+    → Gathered head.nodes [] legs → FramesIndexed indexed head.nodes [] d → Going indexed net head 0 legs d
+starts {net = net} {head = head} p l g x =
+    record {
+      taken = [];
+      runs = refl;
+      limited = p;
+      long = l;
+      gathered = g;
+      index = x;
+      tests = rw (mul-zero, sub-zero);
+      corners = rw (mul-zero, sub-zero);
+    }
 
-module _ {net : List ℕ} {head : Head} {s : ℕ} {d : List ℕ} (w : Going net head s d) where
+module _ {indexed : Bool} {net : List ℕ} {head : Head} {s : ℕ} {legs d : List ℕ} (w : Going indexed net head s legs d) where
   pub part_fits : s < head.segments → 7 + frame_bytes head.edition * s + frame_bytes head.edition ≤ length net
   part_fits h =
       let p : frame_bytes head.edition * (s + 1) ≤ frame_bytes head.edition * head.segments = mul-le-mul_left (frame_bytes head.edition) (omega arith) in
@@ -56,58 +69,83 @@ module _ {net : List ℕ} {head : Head} {s : ℕ} {d : List ℕ} (w : Going net 
 abbrev pub part : List ℕ → ℕ → ℕ → List ℕ
 part net size s = take (7 + size * s + size - (7 + size * s)) (drop (7 + size * s) net)
 
-module _ {net : List ℕ} {head : Head} {s : ℕ} {d : List ℕ} (w : Going net head s d) {size : ℕ} (e : size ≡ frame_bytes head.edition) where
+module _ {indexed : Bool} {net : List ℕ} {head : Head} {s : ℕ} {legs d : List ℕ} (w : Going indexed net head s legs d) {size : ℕ}
+    (e : size ≡ frame_bytes head.edition) where
   abbrev left : List ℕ
   left = drop (7 + frame_bytes head.edition * s) net
 
-  part_is : part net size s ≡ take (frame_bytes head.edition) left
+  abbrev frame : List ℕ
+  frame = take (frame_bytes head.edition) left
+
+  pub part_is : part net size s ≡ frame
   part_is =
       let l : 7 + frame_bytes head.edition * s + frame_bytes head.edition - (7 + frame_bytes head.edition * s) ≡ frame_bytes head.edition = omega arith in
       simp (e, l)
 
   -- what the code tested of its part is what the definition tests of the frame
-  tested : {d' : List ℕ} {r : Bool} → SegmentChecked (part net size s) head s d d' r
-      → eqb (segment_fault head.edition head.nodes true w.taken (take (frame_bytes head.edition) left)) 0 ≡ r
-  tested {d'} {r} g =
-      ap (λ (x : ℕ). eqb x 0)
-      (sym (index_fault_lem w.indexed head.edition true (take (frame_bytes head.edition) left))
-      ∙ ap (index_fault head.edition head.nodes true d) (sym part_is)) ∙ sym g.answer
+  tested : eqb (legs_fault head.edition head.nodes true legs (part net size s)) 0 ≡ eqb (segment_fault head.edition head.nodes true w.taken frame) 0
+  tested =
+      ap (λ (x : ℕ). eqb x 0) (ap (legs_fault head.edition head.nodes true legs) part_is ∙ legs_fault_lem w.gathered head.edition true frame)
 
-  pub fails : {d' : List ℕ} {r : Bool} → s < head.segments → SegmentChecked (part net size s) head s d d' r → r ≡ false → FramesChecked head (drop 7 net) d' false
+  pub fails : s < head.segments → eqb (legs_fault head.edition head.nodes true legs (part net size s)) 0 ≡ false → {legs' d' : List ℕ}
+      → FramesChecked indexed head (drop 7 net) legs' d' false
   unfolding frames_ok
-  fails {d'} {r} h g x =
+  fails h x =
       let z : head.segments - s ≡ suc (head.segments - (s + 1)) = omega arith in
-      record { answer = sym (rw (z, frames_ok, tested g ∙ x)) ∙ w.tests; index = λ t. true_is_false refl t }
+      record { answer = sym (rw (z, frames_ok, sym tested ∙ x)) ∙ w.tests; legs = λ t. true_is_false refl t; index = λ t. true_is_false refl t }
 
-  pub goes_on : {d' : List ℕ} {r : Bool} → s < head.segments → SegmentChecked (part net size s) head s d d' r → r ≡ true → Going net head (s + 1) d'
-  unfolding frames_ok corners_from
-  goes_on {d'} {r} h g x =
-      let f : List ℕ = take (frame_bytes head.edition) left in
-      let z : head.segments - s ≡ suc (head.segments - (s + 1)) = omega arith in
-      let t : eqb (segment_fault head.edition head.nodes true w.taken f) 0 ≡ true = tested g ∙ x in
-      let o = corners_few head.nodes f (faultless head.edition head.nodes true w.taken f (eqb-true _ _ t)).follows.ends in
-      let y : d' ≡ claimed d s f = g.index x ∙ ap (claimed d s) part_is in
-      let b : drop (frame_bytes head.edition) left ≡ drop (7 + frame_bytes head.edition * (s + 1)) net =
-      drop-drop (frame_bytes head.edition) (7 + frame_bytes head.edition * s) net
-      ∙ ap (λ (i : ℕ). drop i net) (omega (arith, times_next (frame_bytes head.edition) s)) in
-      record {
-        taken = taking w.taken f;
-        runs = omega (arith, w.runs);
-        limited = w.limited;
-        long = w.long;
-        indexed = subst (λ (i : List ℕ). Indexed head.nodes (taking w.taken f) i) (sym y) (claimed_indexed w.indexed s f w.runs o.0 o.1);
-        tests = sym (rw (z, frames_ok, t, b)) ∙ w.tests;
-        corners = sym (rw (z, corners_from, b)) ∙ w.corners;
-      }
+  module _ (x : eqb (legs_fault head.edition head.nodes true legs (part net size s)) 0 ≡ true) {ends : Ends} (k : ends ≡ ends_of (part net size s)) where
+    passes : eqb (segment_fault head.edition head.nodes true w.taken frame) 0 ≡ true
+    passes = sym tested ∙ x
 
-module _ {net : List ℕ} {head : Head} {s : ℕ} {d : List ℕ} (w : Going net head s d) where
-  pub ends : head.segments ≤ s → FramesChecked head (drop 7 net) d true
+    follow : ends_ok head.nodes frame ≡ true
+    follow = (faultless head.edition head.nodes true w.taken frame (eqb-true _ _ passes)).follows.ends
+
+    ends_are : ends ≡ ends_of frame
+    ends_are = k ∙ ap ends_of part_is
+
+    -- the runs of the segment have their entries in an index that is to be filled
+    pub runs_room : s < head.segments → indexed ≡ true → RunsRoom ends s d
+    runs_room h t =
+        let o = corners_few head.nodes frame follow in
+        let m = (w.index t).room in
+        subst (λ (j : Ends). RunsRoom j s d) (sym ends_are)
+        (record { counted = omega (arith, w.limited.few_segments); a_fits = omega (arith, o.0); b_fits = omega (arith, o.1) })
+
+    pub goes_on : {legs' d' : List ℕ} → s < head.segments → legs' ≡ claimed legs ends → (indexed ≡ true → d' ≡ with_runs d s ends)
+        → Going indexed net head (s + 1) legs' d'
+    unfolding frames_ok corners_from
+    goes_on {legs'} {d'} h y i =
+        let z : head.segments - s ≡ suc (head.segments - (s + 1)) = omega arith in
+        let o = corners_few head.nodes frame follow in
+        let b : drop (frame_bytes head.edition) left ≡ drop (7 + frame_bytes head.edition * (s + 1)) net =
+        drop-drop (frame_bytes head.edition) (7 + frame_bytes head.edition * s) net
+        ∙ ap (λ (j : ℕ). drop j net) (omega (arith, times_next (frame_bytes head.edition) s)) in
+        record {
+          taken = taking w.taken frame;
+          runs = omega (arith, w.runs);
+          limited = w.limited;
+          long = w.long;
+          gathered =
+              subst (λ (j : List ℕ). Gathered head.nodes (taking w.taken frame) j) (sym (y ∙ ap (claimed legs) ends_are))
+              (claimed_gathered w.gathered frame follow);
+          index = λ u.
+              subst (λ (j : List ℕ). Indexed head.nodes (taking w.taken frame) j) (sym (i u ∙ ap (with_runs d s) ends_are))
+              (entered_indexed (w.index u) s frame w.runs o.0 o.1);
+          tests = sym (rw (z, frames_ok, passes, b)) ∙ w.tests;
+          corners = sym (rw (z, corners_from, b)) ∙ w.corners;
+        }
+
+module _ {indexed : Bool} {net : List ℕ} {head : Head} {s : ℕ} {legs d : List ℕ} (w : Going indexed net head s legs d) where
+  pub ends : head.segments ≤ s → FramesChecked indexed head (drop 7 net) legs d true
   unfolding frames_ok corners_from
   ends h =
       let z : head.segments - s ≡ 0 = omega arith in
+      let all = sym (rw (z, corners_from)) ∙ w.corners in
       record {
         answer = sym (rw (z, frames_ok)) ∙ w.tests;
-        index = λ t. subst (λ (i : List ℕ). Indexed head.nodes i d) (sym (rw (z, corners_from)) ∙ w.corners) w.indexed;
+        legs = λ t. subst (λ (i : List ℕ). Gathered head.nodes i legs) all w.gathered;
+        index = λ t u. subst (λ (i : List ℕ). Indexed head.nodes i d) all (w.index u);
       }
 
 -- ---- the whole test, from the head's
@@ -119,7 +157,7 @@ kept_is net e h = h ∙ ap (λ (x : Head). 7 + frame_bytes x.edition * x.segment
 module _ {net d : List ℕ} where
   pub no_head : (eqb (framed 1 7 (head_of net) 0) 0 && head_ok (head_of net)) ≡ false → Checked net d false
   unfolding is_network
-  no_head e = record { answer = rw (head_and (head_of net), e); index = λ t. true_is_false refl t }
+  no_head e = record { answer = rw (head_and (head_of net), e); legs = λ t. true_is_false refl t }
 
   pub too_short : length net < 7 → Checked net d false
   too_short h =
@@ -136,15 +174,16 @@ module _ {net d : List ℕ} where
     wrong_length l =
         record {
           answer = rw (head_and (head_of net), good, ne_eqb (length net) (kept_bytes (head_of net)) l);
-          index = λ t. true_is_false refl t;
+          legs = λ t. true_is_false refl t;
         }
 
-    pub by_frames : {head : Head} {r : Bool} → head ≡ head_fields (head_of net) → length net ≡ kept_bytes (head_of net) → FramesChecked head (drop 7 net) d r
-        → Checked net d r
+    pub by_frames : {indexed : Bool} {head : Head} {index : List ℕ} {r : Bool} → head ≡ head_fields (head_of net) → length net ≡ kept_bytes (head_of net)
+        → FramesChecked indexed head (drop 7 net) d index r → Checked net d r
     unfolding is_network
-    by_frames {head} {r} e l g =
-        let h : FramesChecked (head_fields (head_of net)) (drop 7 net) d r = subst (λ (x : Head). FramesChecked x (drop 7 net) d r) e g in
-        record { answer = rw (head_and (head_of net), good, eq-eqb (length net) (kept_bytes (head_of net)) l) h.answer; index = h.index }
+    by_frames {indexed} {head} {index} {r} e l g =
+        let h : FramesChecked indexed (head_fields (head_of net)) (drop 7 net) d index r =
+        subst (λ (x : Head). FramesChecked indexed x (drop 7 net) d index r) e g in
+        record { answer = rw (head_and (head_of net), good, eq-eqb (length net) (kept_bytes (head_of net)) l) h.answer; legs = h.legs }
 
 -- all that decides before the frames do
 pub ruleset whole_test = (too_short, no_head, wrong_length, kept_is, limited)

@@ -1,3 +1,4 @@
+pub mod TakenLaws
 pub mod CornerLaws
 pub mod FaultLaws
 pub mod FramesChecked

@@ -18,11 +18,15 @@ use Rattle.frames.proofs.FrameLaws.{head_limits}
 use Rattle.frames.proofs.TownLaws.{town_nodes}
 use Rattle.network.specs.Network.{head_of, edition_of, nodes_of, segments_of, is_network}
 use Rattle.network.specs.Steps.Corners.{NoCorners}
-use Rattle.network.specs.Steps.Checks.{FewNodes, Awaits, is_county}
+use Rattle.network.specs.Steps.Taken.{NoLegs}
+use Rattle.network.specs.Steps.Checks.{FewNodes, Awaits, AwaitsRuns, is_county}
 use Rattle.network.proofs.NetworkLaws.{passed}
 
-pub few_await : {most : ℕ} {net index : List ℕ} → FewNodes most net → NoCorners most index → Awaits net index
+pub few_await : {most : ℕ} {net legs : List ℕ} → FewNodes most net → NoLegs most legs → Awaits net legs
 few_await {most} {net} few w = record { free = λ l h. w (nodes_of net) (few.few l h) }
+
+pub few_await_runs : {most : ℕ} {net index : List ℕ} → FewNodes most net → NoCorners most index → AwaitsRuns true net index
+few_await_runs {most} {net} few w = record { free = λ l h t. w (nodes_of net) (few.few l h) }
 
 pub county_heads : (net : List ℕ) → FewNodes county_size net
 county_heads net = record { few = λ l h. (head_limits (head_of net) h).few_nodes }
@@ -44,12 +48,6 @@ module _ (net : List ℕ) {county : Bool} (e : county ≡ is_county net) (f : co
 
   pub town_heads : FewNodes town_size net
   town_heads = record { few = town_head }
-
-pub county_awaits : {net index : List ℕ} → NoCorners county_size index → Awaits net index
-county_awaits {net} w = few_await (county_heads net) w
-
-pub town_awaits : {net index : List ℕ} {county : Bool} → county ≡ is_county net → county ≡ false → NoCorners town_size index → Awaits net index
-town_awaits {net} e f w = few_await (town_heads net e f) w
 
 pub county_few : (net : List ℕ) → is_network net ≡ true → nodes_of net ≤ county_size
 county_few net is = (passed net is).limits.few_nodes

@@ -1,4 +1,5 @@
 pub mod Legs
+pub mod LegBits
 pub mod Faults
 pub mod Network
 pub mod Steps

@@ -1,2 +1,3 @@
+pub mod Taken
 pub mod Corners
 pub mod Checks

@@ -1,10 +1,9 @@
-// The corner index: for each leg of each node, 0 while it is free, else 1 + the run that leaves by it.
+// The index of runs, which searches fill: for each leg of each node, 0 while it is free, else 1 + the run that leaves by it.
 ghost use Rattle.std.specs.Prelude.{◌/◌, ◌≡◌};
-ghost use Rattle.network.specs.Steps.Corners.{NoCorners, run_leaving};
-ghost use Rattle.network.specs.Steps.Checks.{Claimable, Claimed};
+ghost use Rattle.network.specs.Steps.Corners.{NoCorners, run_leaving, with_runs, RunsRoom};
 
-use frames::frame::{byte_at, word_at};
-use frames::{fields, sizes};
+use crate::legs::Ends;
+use frames::sizes;
 
 // Eight legs for each node.
 pub const TOWN_CORNERS: usize = 8 * sizes::TOWN;
@@ -28,19 +27,11 @@ pub fn run_leaving(entry: u16) -> Option<usize>
     }
 }
 
-// Takes both legs of segment s where they are free and not one leg; else it leaves the index as it was.
-#[tactic(auto, unfolding(crate::specs::Steps::Checks::free_in))]
-pub fn claim_legs(f: &[u8], s: usize, index: &mut [u16]) -> bool
-    requires { Claimable f.now s index.old }
-    ensures { Claimed f.now s index.old index.new result }
+// Enters the runs of segment s: 2s leaves by its A end, 2s + 1 by its B end.
+pub fn enter_runs(ends: Ends, s: usize, index: &mut [u16])
+    requires { RunsRoom ends s index.old }
+    ensures { index.new ≡ with_runs index.old s ends }
 {
-    let a = word_at(f, fields::NODE_A) * 8 + byte_at(f, fields::LEG_A);
-    let b = word_at(f, fields::NODE_B) * 8 + byte_at(f, fields::LEG_B);
-    if (index[a] == 0) & (index[b] == 0) & (a != b) {
-        index[a] = (s * 2 + 1) as u16;
-        index[b] = (s * 2 + 2) as u16;
-        true
-    } else {
-        false
-    }
+    index[ends.node_a * 8 + ends.leg_a] = (s * 2 + 1) as u16;
+    index[ends.node_b * 8 + ends.leg_b] = (s * 2 + 2) as u16;
 }

@@ -1,19 +1,21 @@
 // Test 8: bytes that Read could keep.
-ghost use Rattle.std.specs.Prelude.{◌+◌, ◌*◌, ◌/◌, ◌≤◌, ◌<◌, ◌≡◌, [], length, drop};
+ghost use Rattle.std.specs.Prelude.{◌+◌, ◌*◌, ◌≤◌, ◌≡◌, [], true, length, drop};
 ghost use Rattle.frames.specs.Edition.{frame_bytes};
 ghost use Rattle.frames.specs.Frame.{head_bytes};
 ghost use Rattle.frames.specs.Steps.Sizes.{county_size, Limited};
 ghost use Rattle.network.specs.Network.{is_network};
-ghost use Rattle.network.specs.Steps.Corners.{Indexed};
-ghost use Rattle.network.specs.Steps.Checks.{HeadFits, FewNodes, Awaits, FramesChecked, Checked, SegmentChecked, is_county};
+ghost use Rattle.network.specs.Steps.Corners.{IndexOf};
+ghost use Rattle.network.specs.Steps.Taken.{Gathered};
+ghost use Rattle.network.specs.Steps.Checks.{HeadFits, FewNodes, Awaits, AwaitsRuns, FramesIndexed, FramesChecked, Checked, SegmentChecked, is_county};
 
-use crate::corners::{COUNTY_CORNERS, TOWN_CORNERS, claim_legs, free_corners};
+use crate::corners::enter_runs;
+use crate::legs::{Ends, claim_legs, ends_of, no_legs};
 use frames::decoded::head_of;
 use frames::edition::frame_bytes;
 use frames::frame::{Frame, is_framed};
 use frames::ranges::{ends_ok, head_ok};
 use frames::sizes::is_town;
-use frames::{Head, fields};
+use frames::{Head, fields, sizes};
 
 // The bytes of a network with this head.
 #[tactic(auto, using(frames::proofs::EditionLaws::frames_few))]
@@ -24,48 +26,66 @@ pub fn kept_bytes(head: Head) -> usize
     fields::HEAD_BYTES + frame_bytes(head.edition) * head.segments
 }
 
-// The frame of segment s follows the rules, and its legs were free; then it takes them.
-#[tactic(auto, using(crate::proofs::FaultLaws::line_and, crate::proofs::CornerLaws::corners_few, frames::proofs::EditionLaws::frame_least))]
-fn segment_ok(f: &[u8], head: Head, s: usize, index: &mut [u16]) -> bool
-    requires { (length f.now ≡ frame_bytes head.edition) × (s < head.segments) × HeadFits head index.old }
-    ensures { SegmentChecked f.now head s index.old index.new result }
+// The ends of a segment whose frame follows the rules and whose legs were free; then they are taken. It is always inlined: a call for each segment would cost
+// the pass an eighth.
+#[inline(always)]
+#[tactic(auto, using(crate::proofs::FaultLaws::line_and, frames::proofs::FrameLaws::end_limits, frames::proofs::EditionLaws::frame_least))]
+fn take_segment(f: &[u8], head: Head, legs: &mut [u8]) -> Option<Ends>
+    requires { (length f.now ≡ frame_bytes head.edition) × HeadFits head legs.old }
+    ensures { SegmentChecked f.now head legs.old legs.new result }
 {
     if !is_framed(f, fields::SEGMENT_KIND) {
-        return false;
+        return None;
     }
     let frame = Frame {
         bytes: f,
         edition: head.edition,
     };
     if !frame.street_ok() {
-        return false;
+        return None;
     }
     if !ends_ok(f, head.nodes) {
-        return false;
+        return None;
     }
-    claim_legs(f, s, index)
+    let ends = ends_of(f);
+    if !claim_legs(ends, legs) {
+        return None;
+    }
+    Some(ends)
 }
 
-// The segment frames after the head follow the rules, and no leg is taken twice; then the index has all their corners.
-fn frames_ok(net: &[u8], head: Head, index: &mut [u16]) -> bool
-    requires { (length net.now ≡ head_bytes + frame_bytes head.edition * head.segments) × Limited head × Indexed head.nodes [] index.old }
-    ensures { FramesChecked head (drop head_bytes net.now) index.new result }
+// The one pass over the segments: the frames after the head follow the rules, and no leg is taken twice; then the bytes have all used legs, and an index that
+// is to be filled has all runs.
+fn frames_ok<const INDEXED: bool>(
+    net: &[u8],
+    head: Head,
+    legs: &mut [u8],
+    index: &mut [u16],
+) -> bool
+    requires { (length net.now ≡ head_bytes + frame_bytes head.edition * head.segments) × Limited head
+        × Gathered head.nodes [] legs.old × FramesIndexed INDEXED head.nodes [] index.old }
+    ensures { FramesChecked INDEXED head (drop head_bytes net.now) legs.new index.new result }
 {
     let size = frame_bytes(head.edition);
     for s in 0..head.segments {
         let at = fields::HEAD_BYTES + size * s;
-        if !segment_ok(&net[at..at + size], head, s, index) {
+        let f = &net[at..at + size];
+        let Some(ends) = take_segment(f, head, legs) else {
             return false;
+        };
+        if INDEXED {
+            enter_runs(ends, s, index);
         }
     }
     true
 }
 
-// Whether the bytes are a network that Read could keep; then the index has all its corners.
+// Whether the bytes are a network that Read could keep; then the bytes lent have its used legs, and an index that is to be filled has its runs.
 #[tactic(auto, using(crate::proofs::FramesChecked::whole_test))]
-pub fn is_network(net: &[u8], index: &mut [u16]) -> bool
-    requires { Awaits net.now index.old }
-    ensures { Checked net.now index.new result }
+fn is_network_in<const INDEXED: bool>(net: &[u8], legs: &mut [u8], index: &mut [u16]) -> bool
+    requires { Awaits net.now legs.old × AwaitsRuns INDEXED net.now index.old }
+    ensures checked { Checked net.now legs.new result }
+    ensures indexed { INDEXED ≡ true → result ≡ true → IndexOf net.now index.new }
 {
     if net.len() < fields::HEAD_BYTES {
         return false;
@@ -78,7 +98,25 @@ pub fn is_network(net: &[u8], index: &mut [u16]) -> bool
     if net.len() != kept_bytes(head) {
         return false;
     }
-    frames_ok(net, head, index)
+    frames_ok::<INDEXED>(net, head, legs, index)
+}
+
+// The same for a call that searches nothing, and needs no index.
+pub fn is_network(net: &[u8], legs: &mut [u8]) -> bool
+    requires { Awaits net.now legs.old }
+    ensures { Checked net.now legs.new result }
+{
+    is_network_in::<false>(net, legs, &mut [])
+}
+
+// The same for a search, which needs the index of runs. It is never inlined: the pass has no register to spare for what a caller holds.
+#[inline(never)]
+pub fn is_indexed_network(net: &[u8], legs: &mut [u8], index: &mut [u16]) -> bool
+    requires { Awaits net.now legs.old × AwaitsRuns true net.now index.old }
+    ensures checked { Checked net.now legs.new result }
+    ensures indexed { result ≡ true → IndexOf net.now index.new }
+{
+    is_network_in::<true>(net, legs, index)
 }
 
 // Whether the bytes need a county's memory, by the counts that their head says.
@@ -97,14 +135,14 @@ pub fn is_county(net: &[u8]) -> bool
     !is_town(head.nodes, head.segments)
 }
 
-// Whether the bytes are a network that Read could keep, tested in memory of its own for so many corners.
+// Whether the bytes are a network that Read could keep, tested in memory of its own for so many nodes.
 #[tactic(auto, using(crate::proofs::SizeLaws::few_await))]
-fn is_kept_in<const CORNERS: usize>(net: &[u8]) -> bool
-    requires { (CORNERS ≤ 8 * county_size) × FewNodes (CORNERS / 8) net.now }
+fn is_kept_in<const NODES: usize>(net: &[u8]) -> bool
+    requires { (NODES ≤ county_size) × FewNodes NODES net.now }
     ensures { result ≡ is_network net.now }
 {
-    let mut index = free_corners::<CORNERS>();
-    is_network(net, &mut index)
+    let mut legs = no_legs::<NODES>();
+    is_network(net, &mut legs)
 }
 
 // The same in a county's memory. It is never inlined, so that a town takes no stack for a county.
@@ -113,7 +151,7 @@ fn is_kept_in<const CORNERS: usize>(net: &[u8]) -> bool
 pub fn is_kept_in_county(net: &[u8]) -> bool
     ensures { result ≡ is_network net.now }
 {
-    is_kept_in::<COUNTY_CORNERS>(net)
+    is_kept_in::<{ sizes::COUNTY }>(net)
 }
 
 // The same in a town's memory, where the network is no larger.
@@ -124,5 +162,5 @@ pub fn is_kept(net: &[u8]) -> bool
     if is_county(net) {
         return is_kept_in_county(net);
     }
-    is_kept_in::<TOWN_CORNERS>(net)
+    is_kept_in::<{ sizes::TOWN }>(net)
 }

@@ -1,4 +1,4 @@
--- The length that the code reads. A run arrives at a node just where its opposite leaves by the leg of the arrival, and the corner index has that one at
+-- The length that the code reads. A run arrives at a node just where its opposite leaves by the leg of the arrival, and the index of runs has that one at
 -- one of the node's eight entries. So the labels behind the entries are those of the runs that arrive, and the least of them is the least arrival; an
 -- entry without a run stands for no label.
 -- Assumes nothing.
@@ -71,11 +71,11 @@ module _ (ask : Ask) where
   pub looked_at : {best : List ℕ} → ask.runs ≤ length best → (node : ℕ) → node < nodes_of net → LookedAt index best node
   looked_at fits node l =
       record {
-        room = omega (arith, ask.streets.indexed.room);
+        room = omega (arith, ask.indexed.room);
         each = λ leg low.
             record {
               behind = λ r e.
-                  omega (arith, ((entry_leaves net ask.streets.net.kept ask.streets.indexed l low).leaving r e).inside, ask.counted);
+                  omega (arith, ((entry_leaves net ask.streets.net.kept ask.indexed l low).leaving r e).inside, ask.counted);
             };
       }
 
@@ -86,9 +86,9 @@ module _ (ask : Ask) where
       record {
         least = λ q i e.
             let there : RunOf net (opposite q) = record { network = is; inside = omega arith } in
-            let s = leaving_entry net is ask.streets.indexed there node ((opposed net q).starts ∙ e) in
+            let s = leaving_entry net is ask.indexed there node ((opposed net q).starts ∙ e) in
             omega (arith, least_low index best (node * 8) 8 s.0 s.1, label_of best q s.2);
         whose = λ h.
             let s = least_some index best (node * 8) 8 h in
-            label_whose net best (at index (node * 8 + s.0)) (entry_leaves net is ask.streets.indexed l s.1) s.2 h;
+            label_whose net best (at index (node * 8 + s.0)) (entry_leaves net is ask.indexed l s.1) s.2 h;
       }

@@ -1,4 +1,4 @@
--- The least of the labels behind the entries of the corner index that are passed: one more entry is one more comparison.
+-- The least of the labels behind the entries of the index of runs that are passed: one more entry is one more comparison.
 -- Assumes nothing.
 use mathlib.Core.Path.{◌≡◌, refl}
 use mathlib.Core.List.{List}

@@ -72,7 +72,7 @@ module _ (ask : Ask) where
   way_back_ends : (u r : ℕ) → u < (bicycle (network_in ask)).runs → r < (bicycle (network_in ask)).runs → turns_back (network_in ask) u r ≡ true → finish (network_in ask) r ≡ start (network_in ask) u
   way_back_ends u r i j e =
       let b = turns_back_lem (network_in ask) u r e in
-      back_ends (network_in ask) ask.streets.net.kept ask.streets.indexed (run_of all_runs i) (run_of all_runs j) b.from b.by
+      back_ends (network_in ask) ask.streets.net.kept ask.indexed (run_of all_runs i) (run_of all_runs j) b.from b.by
 
   module _ (t : ℕ) where
     paved : Paved (graph_of (bicycle (network_in ask)) t ask.from)

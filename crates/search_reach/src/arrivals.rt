@@ -5,7 +5,7 @@ ghost use Rattle.search_reach.specs.Steps.Arrivals.{label_behind, least_arrival,
 use network::corners::run_leaving;
 use search_labels::NONE;
 
-// The label of the run that arrives by a leg, whose entry of the corner index this is; NONE where the leg is free.
+// The label of the run that arrives by a leg, whose entry of the index this is; NONE where the leg is free.
 #[tactic(auto, unfolding(crate::specs::Steps::Arrivals::label_behind))]
 fn label_behind(entry: u16, best: &[u32]) -> u32
     requires { Looked entry best.now }
@@ -14,7 +14,7 @@ fn label_behind(entry: u16, best: &[u32]) -> u32
     run_leaving(entry).map_or(NONE, |leaving| best[leaving ^ 1])
 }
 
-// Lengths from a start, as the labels of a search have them: the corner index of the streets, the label of each run, and the start.
+// Lengths from a start, as the labels of a search have them: the index of the runs, the label of each run, and the start.
 #[derive(Clone, Copy)]
 pub struct Lengths<'a, 'b> {
     pub index: &'a [u16],

@@ -67,6 +67,7 @@ pub fn reach(
     let farthest = clamp(greatest);
     let limited = Ask {
         streets: ask.streets,
+        index: ask.index,
         runs: ask.runs,
         least: ask.least,
         tolerance: ask.tolerance,
@@ -78,11 +79,10 @@ pub fn reach(
         goals,
     };
     search.explore(best, previous);
-    let streets = ask.streets;
     let lengths = Lengths {
-        index: streets.index,
+        index: ask.index,
         best,
         from: ask.from,
     };
-    lengths.list_nodes(farthest, streets.net.nodes(), list)
+    lengths.list_nodes(farthest, ask.streets.net.nodes(), list)
 }

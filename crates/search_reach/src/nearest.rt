@@ -56,12 +56,11 @@ pub fn nearest(ask: &Ask, marks: &[u8], best: &mut [u32], previous: &mut [u32]) 
     };
     let met = search.explore(best, previous)?;
     let length = label_in(met.key);
-    let streets = ask.streets;
     let lengths = Lengths {
-        index: streets.index,
+        index: ask.index,
         best,
         from,
     };
-    let node = lengths.first_near(marks, length, streets.net.nodes())?;
+    let node = lengths.first_near(marks, length, ask.streets.net.nodes())?;
     Some(Entry { node, length })
 }

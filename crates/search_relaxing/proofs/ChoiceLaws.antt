@@ -16,9 +16,10 @@ use lib.ListN.{set}
 use Rattle.lists.specs.Lists.{at}
 use Rattle.lists.proofs.Facts.{bool_cases}
 use Rattle.routes.specs.Steps.Labels.{unlabelled, edge_of}
+use Rattle.network.specs.LegBits.{is_set}
 use Rattle.streets.specs.Runs.{start, leaving_leg, joins}
 use Rattle.streets.specs.Exits.{exit_from}
-use Rattle.streets.specs.Steps.Places.{used_in}
+use Rattle.streets.specs.UsedLegs.{LegsOf}
 use Rattle.streets.specs.Bicycle.{bicycle, arrival_turn_level, movement_level}
 use Rattle.streets.proofs.LeavingLaws.{leaving_below}
 use Rattle.search_labels.specs.Steps.Relax.{Relaxed}
@@ -67,11 +68,12 @@ module _ {net index : List ℕ} {t n u node leg : ℕ} (H : Arriving net index n
         noted = noted;
       }
 
-  pub chosen_right : {exit : ℕ} {rest : ToFind} {c : Option Choice} → RightOnly net t u → exit ≡ exit_from (used_in index node) 8 leg
-      → rest ≡ to_find (at unfound node) → (rest ≡ Nothing → ⊥) → c ≡ right_leg exit leg rest → ChosenOf net index t n u node leg unfound c
+  pub chosen_right : {legs : List ℕ} {exit : ℕ} {rest : ToFind} {c : Option Choice} → LegsOf net legs → RightOnly net t u
+      → exit ≡ exit_from (is_set (at legs node)) 8 leg → rest ≡ to_find (at unfound node) → (rest ≡ Nothing → ⊥) → c ≡ right_leg exit leg rest
+      → ChosenOf net index t n u node leg unfound c
   unfolding right_leg edge_of joins movement_level
-  chosen_right {exit} {rest} O is told some e =
-      let x = right_exit H is in
+  chosen_right {exit = exit} {rest} G O is told some e =
+      let x = right_exit H G is in
       let note = told_back (at unfound node) told some in
       bool_cases (eqb exit leg)
       (λ p. rw (e, p) (λ best U r l none d. grind (arith, nat_tests)))

@@ -45,7 +45,7 @@ module _ {net : List ℕ} {n : ℕ} (T : Counted net n) where
         room = omega (arith, few_runs);
       }
 
-  -- an entry of the corner index tells one of the runs
+  -- an entry of the index tells one of the runs
   pub entry_few : {node leg entry : ℕ} → Entry net node leg entry → entry ≤ n
   entry_few {entry = entry} E = grind (arith, E.leaving (entry - 1))
 
@@ -56,7 +56,7 @@ ask_counted ask = record { network = ask.streets.net.kept; count = ask.counted }
 pub feet_asked : (ask : Ask) (r : ℕ) → r < ask.runs → feet_of (network_in ask) r ≤ county_feet
 feet_asked ask = (fair (ask_counted ask)).short
 
--- run u of such a network, with the index of its corners, arrives at a node by a leg
+-- run u of such a network, with the index of its runs, arrives at a node by a leg
 pub record Arriving (net index : List ℕ) (n u node leg : ℕ) : Type 0 where
   pub counted : Counted net n
   pub indexed : IndexOf net index
@@ -65,4 +65,4 @@ pub record Arriving (net index : List ℕ) (n u node leg : ℕ) : Type 0 where
 
 -- as the run does that a search settles
 pub arriving : {ask : Ask} {here : Reached} → Reaches ask here → Arriving (network_in ask) (index_in ask) ask.runs here.run here.node here.leg
-arriving {ask} R = record { counted = ask_counted ask; indexed = ask.streets.indexed; inside = R.inside; arrives = R.arrives }
+arriving {ask} R = record { counted = ask_counted ask; indexed = ask.indexed; inside = R.inside; arrives = R.arrives }

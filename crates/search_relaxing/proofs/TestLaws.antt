@@ -10,9 +10,10 @@ use Prim.Native.Nat.{ℕ, ◌+◌, ◌*◌, ◌≤◌, ◌<◌}
 use native.Mathlib.Omega.{arith}
 use Rattle.lists.specs.Lists.{at}
 use Rattle.routes.specs.Steps.Labels.{source_of, edge_of}
+use Rattle.network.specs.LegBits.{is_set}
 use Rattle.streets.specs.Runs.{start, finish, leaving_leg, arrival_leg, joins}
 use Rattle.streets.specs.Exits.{exit_from, right_hand_exit}
-use Rattle.streets.specs.Steps.Places.{used_in}
+use Rattle.streets.specs.UsedLegs.{LegsOf}
 use Rattle.streets.specs.Bicycle.{bicycle, movement_level}
 use Rattle.streets.specs.Steps.Leaving.{Leaves, Entry}
 use Rattle.streets.proofs.ExitLaws.{exit_below}
@@ -58,10 +59,11 @@ module _ {net index : List ℕ} {n u node leg : ℕ} (H : Arriving net index n u
   unfolding edge_of joins
   onward_at t r l e = leaving_at net H.counted.network H.indexed (run_of H.counted l) (grind (arith, nat_tests)) refl
 
-  -- the right-hand exit, as the code steps down to it
-  pub right_exit : {x : ℕ} → x ≡ exit_from (used_in index node) 8 leg → (x < 8) × (x ≡ right_hand_exit net (finish net u) (arrival_leg net u))
-  right_exit {x} e =
-      (omega (arith, exit_below (used_in index node) 8 leg H.arrives.by_leg.below), exit_is H.counted.network H.indexed H.arrives.at_node H.arrives.by_leg x e)
+  -- the right-hand exit, as the code steps down to it by the node's used legs
+  pub right_exit : {legs : List ℕ} → LegsOf net legs → {x : ℕ} → x ≡ exit_from (is_set (at legs node)) 8 leg
+      → (x < 8) × (x ≡ right_hand_exit net (finish net u) (arrival_leg net u))
+  right_exit {legs} G {x} e =
+      (omega (arith, exit_below (is_set (at legs node)) 8 leg H.arrives.by_leg.below), exit_is G H.arrives.at_node H.arrives.by_leg x e)
 
   -- the way back stands at the entry of the leg of arrival
   pub back_behind : RunBehind n (at index (node * 8 + leg))

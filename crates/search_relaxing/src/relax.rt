@@ -137,7 +137,7 @@ fn choose(ask: &Ask, here: Reached, unfound: &[u8]) -> Option<Choice>
     }
     if approach.turn <= ask.tolerance {
         return right_leg(
-            right_hand_exit(ask.streets.index, here.node, here.leg),
+            right_hand_exit(ask.streets.legs[here.node], here.leg),
             here.leg,
             rest,
         );
@@ -183,7 +183,7 @@ fn visit(
     write_label(ask.runs, run, label, here.run as u32, best, previous, tree);
 }
 
-// Visits the run behind an entry of the corner index, where there is one.
+// Visits the run behind an entry of the index, where there is one.
 fn relax_leg(
     ask: &Ask,
     here: Reached,
@@ -219,7 +219,7 @@ fn offer(
 {
     let place = here.node * 8;
     for k in 0..choice.count {
-        let entry = ask.streets.index[place + (choice.first + k) % 8];
+        let entry = ask.index[place + (choice.first + k) % 8];
         relax_leg(ask, here, entry, best, previous, tree, unfound);
     }
 }
@@ -231,7 +231,7 @@ fn label_back(ask: &Ask, here: Reached, best: &mut [u32], previous: &mut [u32])
     ensures { BackLabelled ask.now here best.old previous.old
         best.new previous.new }
 {
-    if let Some(back) = run_leaving(ask.streets.index[here.node * 8 + here.leg]) {
+    if let Some(back) = run_leaving(ask.index[here.node * 8 + here.leg]) {
         if NONE <= best[back] {
             best[back] = label_by(ask, here, back);
             previous[back] = here.run as u32;

@@ -17,6 +17,10 @@ abbrev pub NoneBelow : Ask → List ℕ → Type 0
 NoneBelow ask goals = ask.least < ask.tolerance → NothingMet ask (ask.tolerance - 1) goals
 
 module _ {ask : Ask} {goals : List ℕ} {best previous : List ℕ} where
+  -- a search at a tolerance met nothing: so it was, whatever is written over its labels
+  pub nothing_met : (t : ℕ) → Stopped ask t goals best previous None → NothingMet ask t goals
+  nothing_met t m = record { best = best; previous = previous; key = m.0; beyond = m.1; stop = m.2 }
+
   pub lower_met : {met : Met} → ask.least < ask.tolerance → Meets (lower ask) goals best previous (Some met) → Meets ask goals best previous (Some met)
   lower_met l m =
       record {
@@ -28,12 +32,8 @@ module _ {ask : Ask} {goals : List ℕ} {best previous : List ℕ} where
       }
 
   pub lower_nothing : Meets (lower ask) goals best previous None → NoneBelow ask goals
-  lower_nothing m h = record { best = best; previous = previous; key = m.0.0; beyond = m.0.1; stop = m.0.2 }
+  lower_nothing m h = nothing_met (ask.tolerance - 1) m.0
 
   pub met_here : {key : ℕ} → ask.least ≤ ask.tolerance → NoneBelow ask goals → Stopped ask ask.tolerance goals best previous (Some key)
       → Meets ask goals best previous (Some (record { key = key; tolerance = ask.tolerance }))
   met_here l n s = record { low = l; high = omega arith; below_limit = s.0; stop = s.1; none_below = n }
-
-  -- a search at a tolerance met nothing: so it was, whatever is written over its labels
-  pub nothing_met : (t : ℕ) → Stopped ask t goals best previous None → NothingMet ask t goals
-  nothing_met t m = record { best = best; previous = previous; key = m.0; beyond = m.1; stop = m.2 }

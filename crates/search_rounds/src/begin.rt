@@ -8,7 +8,7 @@ use search_labels::{NONE, clear_labels, write_label};
 use search_relaxing::Ask;
 use search_relaxing::usable::is_usable;
 
-// Labels the run behind an entry of the corner index, where there is one and it is usable.
+// Labels the run behind an entry of the index, where there is one and it is usable.
 #[tactic(auto, using(network::proofs::NetworkLaws::segments_most, frames::proofs::EditionLaws::segments_few))]
 fn begin_at(ask: &Ask, entry: u16, best: &mut [u32], previous: &mut [u32], tree: &mut [u64])
     requires { Seedable ask.now entry best.old previous.old tree.old }
@@ -24,14 +24,14 @@ fn begin_at(ask: &Ask, entry: u16, best: &mut [u32], previous: &mut [u32], tree:
     }
 }
 
-// Takes all labels away and labels the usable runs that leave the start: they stand at its eight entries of the corner index.
+// Takes all labels away and labels the usable runs that leave the start: they stand at its eight entries of the index.
 pub fn begin(ask: &Ask, best: &mut [u32], previous: &mut [u32], tree: &mut [u64])
     requires { Room ask.now.runs best.old previous.old × Empty tree.old ask.now.runs }
     ensures { Begins ask.now best.new previous.new tree.new }
 {
     clear_labels(ask.runs, best);
     let first = ask.from * 8;
-    for entry in &ask.streets.index[first..first + 8] {
+    for entry in &ask.index[first..first + 8] {
         begin_at(ask, *entry, best, previous, tree);
     }
 }

@@ -71,6 +71,7 @@ impl Search<'_, '_> {
         let at = Search {
             ask: Ask {
                 streets: ask.streets,
+                index: ask.index,
                 runs: ask.runs,
                 least: ask.least,
                 tolerance,

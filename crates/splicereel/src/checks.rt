@@ -1,22 +1,34 @@
 // The tests that several calls make of what they are asked, each with its refusal.
-ghost use Rattle.std.specs.Prelude.{◌≡◌, ltb, leb, ⊤};
+ghost use Rattle.std.specs.Prelude.{◌≡◌, true, ltb, leb, ⊤};
 ghost use Rattle.refusals.specs.declared.Refusal.TheVariants.{NoSuchNode, NoSuchTolerance, NoRoom, TooFewEntries};
 ghost use Rattle.frames.specs.Ranges.{within};
-ghost use Rattle.network.specs.Steps.Checks.{Awaits};
+ghost use Rattle.network.specs.Steps.Checks.{Awaits, AwaitsRuns};
 ghost use Rattle.splicereel.specs.Finding.{fits};
-ghost use Rattle.splicereel.specs.Steps.Calls.{Tested, NetworkTested, AskTested, scratch_fits};
+ghost use Rattle.splicereel.specs.Steps.Calls.{Tested, NetworkTested, NetworkIndexed, AskTested, scratch_fits};
 
 use queue::TOP;
 use refusals::Refusal;
 use search_relaxing::Ask;
 use streets::kept::Streets;
 
-// 8: the bytes are a network. Its corners are then in the index.
-pub fn streets_of<'a>(net: &'a [u8], index: &'a mut [u16]) -> Result<Streets<'a>, Refusal>
-    requires { Awaits net.now index.old }
+// 8: the bytes are a network.
+pub fn streets_of<'a>(net: &'a [u8], legs: &'a mut [u8]) -> Result<Streets<'a>, Refusal>
+    requires { Awaits net.now legs.old }
     ensures { NetworkTested net.now result }
 {
-    Streets::of(net, index).ok_or(Refusal::NotANetwork)
+    Streets::of(net, legs).ok_or(Refusal::NotANetwork)
+}
+
+// The same for a search: the runs of the network are then in the index.
+pub fn indexed_streets<'a>(
+    net: &'a [u8],
+    legs: &'a mut [u8],
+    index: &mut [u16],
+) -> Result<Streets<'a>, Refusal>
+    requires { Awaits net.now legs.old × AwaitsRuns true net.now index.old }
+    ensures { NetworkIndexed net.now index.new result }
+{
+    Streets::indexed(net, legs, index).ok_or(Refusal::NotANetwork)
 }
 
 // 9: the node is one of the network's.
@@ -80,22 +92,24 @@ pub fn check_entries(wanted: usize, entries: usize) -> Result<(), Refusal>
 #[tactic(auto, unfolding(crate::specs::Finding::reach_refusal))]
 pub fn ask_from<'a>(
     net: &'a [u8],
+    legs: &'a mut [u8],
     index: &'a mut [u16],
     from: usize,
     tolerance: usize,
     best: &[u32],
     previous: &[u32],
 ) -> Result<Ask<'a>, Refusal>
-    requires { Awaits net.now index.old }
+    requires { Awaits net.now legs.old × AwaitsRuns true net.now index.old }
     ensures { AskTested net.now from tolerance best.now previous.now result }
 {
-    let streets = streets_of(net, index)?;
+    let streets = indexed_streets(net, legs, index)?;
     let runs = streets.net.runs();
     check_node(streets.net.nodes(), from)?;
     let tolerance = tolerance_of(tolerance)?;
     check_scratch(runs, best.len(), previous.len())?;
     Ok(Ask {
         streets,
+        index,
         runs,
         least: tolerance,
         tolerance,

@@ -2,10 +2,11 @@
 ghost use Rattle.splicereel.specs.Promises.{lent, LeastPromise};
 ghost use Rattle.splicereel.specs.Steps.Calls.{CornerRoom, NodeRoom};
 
-use crate::checks::{check_node, check_room, streets_of};
+use crate::checks::{check_node, check_room, indexed_streets};
 use frames::sizes;
 use network::corners::{COUNTY_CORNERS, TOWN_CORNERS, free_corners};
 use network::kept::is_county;
+use network::legs::no_legs;
 use queue::TOP;
 use refusals::Refusal;
 use routes::LeastRoute;
@@ -14,6 +15,7 @@ use search_rounds::explore::unknown;
 use search_routes::find::find;
 
 // As `route`, at the smallest tolerance from 1 to 4 that has a route; none where no route is within tolerance 4.
+#[tactic(auto, using(crate::proofs::MemoryLaws::town_corners, crate::proofs::MemoryLaws::town_nodes))]
 pub fn least_stress(
     net: &[u8],
     from: usize,
@@ -35,6 +37,7 @@ pub fn least_stress(
 
 // The same in a county's memory. It is never inlined: a town takes no stack for a county.
 #[inline(never)]
+#[tactic(auto, using(crate::proofs::MemoryLaws::county_corners, crate::proofs::MemoryLaws::county_nodes))]
 pub fn least_stress_in_county(
     net: &[u8],
     from: usize,
@@ -69,8 +72,9 @@ fn least_stress_in<const CORNERS: usize, const NODES: usize>(
         (lent best.old previous.old buffer.old)
         (lent best.new previous.new buffer.new) place result }
 {
+    let mut legs = no_legs::<NODES>();
     let mut index = free_corners::<CORNERS>();
-    let streets = streets_of(net, &mut index)?;
+    let streets = indexed_streets(net, &mut legs, &mut index)?;
     let nodes = streets.net.nodes();
     let runs = streets.net.runs();
     check_node(nodes, from)?;
@@ -78,6 +82,7 @@ fn least_stress_in<const CORNERS: usize, const NODES: usize>(
     check_room(runs, best.len(), previous.len(), buffer.len(), place)?;
     let ask = Ask {
         streets,
+        index: &index,
         runs,
         least: 1,
         tolerance: 4,

@@ -2,10 +2,11 @@
 ghost use Rattle.splicereel.specs.Promises.{lent, RoutePromise};
 ghost use Rattle.splicereel.specs.Steps.Calls.{CornerRoom, NodeRoom};
 
-use crate::checks::{check_node, check_room, streets_of, tolerance_of};
+use crate::checks::{check_node, check_room, indexed_streets, tolerance_of};
 use frames::sizes;
 use network::corners::{COUNTY_CORNERS, TOWN_CORNERS, free_corners};
 use network::kept::is_county;
+use network::legs::no_legs;
 use queue::TOP;
 use refusals::Refusal;
 use routes::Found;
@@ -15,6 +16,7 @@ use search_routes::find::find;
 
 // Writes the runs of a shortest route within the tolerance into the buffer from the place on, and gives their count, the length in feet and the level; none
 // where no route is within the tolerance.
+#[tactic(auto, using(crate::proofs::MemoryLaws::town_corners, crate::proofs::MemoryLaws::town_nodes))]
 pub fn route(
     net: &[u8],
     from: usize,
@@ -39,6 +41,7 @@ pub fn route(
 
 // The same in a county's memory. It is never inlined: a town takes no stack for a county.
 #[inline(never)]
+#[tactic(auto, using(crate::proofs::MemoryLaws::county_corners, crate::proofs::MemoryLaws::county_nodes))]
 pub fn route_in_county(
     net: &[u8],
     from: usize,
@@ -75,8 +78,9 @@ fn route_in<const CORNERS: usize, const NODES: usize>(
         (lent best.old previous.old buffer.old)
         (lent best.new previous.new buffer.new) place result }
 {
+    let mut legs = no_legs::<NODES>();
     let mut index = free_corners::<CORNERS>();
-    let streets = streets_of(net, &mut index)?;
+    let streets = indexed_streets(net, &mut legs, &mut index)?;
     let nodes = streets.net.nodes();
     let runs = streets.net.runs();
     check_node(nodes, from)?;
@@ -85,6 +89,7 @@ fn route_in<const CORNERS: usize, const NODES: usize>(
     check_room(runs, best.len(), previous.len(), buffer.len(), place)?;
     let ask = Ask {
         streets,
+        index: &index,
         runs,
         least: tolerance,
         tolerance,

@@ -1,4 +1,4 @@
--- In a kept network the corner of a run, the node and the leg that it leaves, is the corner of its segment's end, so the corner index has the run there
+-- In a kept network the corner of a run, the node and the leg that it leaves, is the corner of its segment's end, so the index of runs has the run there
 -- and nowhere else: an entry that is not 0 tells a run that leaves by that leg of that node, and every run that leaves a node is at one of the
 -- node's eight entries. So the one run that leaves by the leg where another arrives is the other run of that one's segment. A run has 1 foot at least,
 -- and at most what its edition allows.
@@ -64,7 +64,7 @@ own_corner net r c w = grind (arith, nat_tests)
 leaves_inside : (net : List ℕ) (r c : ℕ) → LeavesBy net r c → r < runs_of net
 leaves_inside net r c w = grind arith
 
--- ---- the corner index
+-- ---- the index of runs
 module _ (net : List ℕ) {index : List ℕ} (is : is_network net ≡ true) (I : IndexOf net index) where
   index_entry : (node leg : ℕ) → node < nodes_of net → leg < 8 → at index (node * 8 + leg) ≡ leaves (corners_of net) (corner node leg)
   index_entry node leg l low = I.entry (corner node leg) (corner_below node leg l (omega arith))

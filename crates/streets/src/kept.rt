@@ -1,15 +1,16 @@
-// A kept network, and its streets: the network with the index of its corners.
+// A kept network, and its streets: the network with the used legs of its nodes.
 ghost use Rattle.std.specs.Prelude.{◌<◌, ◌≡◌, true, false, MatchOption};
 ghost use Rattle.network.specs.Network.{nodes_of, segments_of, is_network};
 ghost use Rattle.network.specs.Steps.Corners.{IndexOf};
-ghost use Rattle.network.specs.Steps.Checks.{Awaits};
+ghost use Rattle.network.specs.Steps.Checks.{Awaits, AwaitsRuns};
 ghost use Rattle.streets.specs.Runs.{runs_of};
 ghost use Rattle.streets.specs.Steps.Places.{FrameOf};
+ghost use Rattle.streets.specs.UsedLegs.{LegsOf};
 
 use frames::edition::frame_bytes;
 use frames::fields;
 use frames::frame::{Frame, word_at};
-use network::kept::is_network;
+use network::kept::{is_indexed_network, is_network};
 
 // Bytes that Read could keep.
 #[derive(Clone, Copy)]
@@ -18,12 +19,12 @@ pub struct Network<'a> {
     pub ghost kept: { is_network bytes.now ≡ true },
 }
 
-// A kept network with the index of its corners.
+// A kept network with the used legs of its nodes, a byte for each.
 #[derive(Clone, Copy)]
 pub struct Streets<'a> {
     pub net: Network<'a>,
-    pub index: &'a [u16],
-    pub ghost indexed: { IndexOf net.bytes.now index.now },
+    pub legs: &'a [u8],
+    pub ghost gathered: { LegsOf net.bytes.now legs.now },
 }
 
 #[tactic(auto, using(network::proofs::NetworkLaws::network_length, crate::proofs::EndLaws::frame_room, crate::proofs::EndLaws::segments_few))]
@@ -64,18 +65,33 @@ impl<'a> Network<'a> {
     }
 }
 
+#[tactic(auto, using(crate::proofs::LegsUsed::legs_of))]
 impl<'a> Streets<'a> {
-    // The streets of a network, if the bytes are one; its corners are then in the index.
-    pub fn of(net: &'a [u8], index: &'a mut [u16]) -> Option<Streets<'a>>
-        requires { Awaits net.now index.old }
+    // The streets of a network, if the bytes are one; its used legs are then in the bytes lent.
+    pub fn of(net: &'a [u8], legs: &'a mut [u8]) -> Option<Streets<'a>>
+        requires { Awaits net.now legs.old }
         ensures { MatchOption result (is_network net.now ≡ false) (λ streets. streets.net.bytes.now ≡ net.now) }
     {
-        if !is_network(net, index) {
+        if !is_network(net, legs) {
             return None;
         }
         Some(Streets {
             net: Network { bytes: net },
-            index,
+            legs,
+        })
+    }
+
+    // The same for a search: the index lent then has the network's runs.
+    pub fn indexed(net: &'a [u8], legs: &'a mut [u8], index: &mut [u16]) -> Option<Streets<'a>>
+        requires { Awaits net.now legs.old × AwaitsRuns true net.now index.old }
+        ensures { MatchOption result (is_network net.now ≡ false) (λ streets. (streets.net.bytes.now ≡ net.now) × IndexOf net.now index.new) }
+    {
+        if !is_indexed_network(net, legs, index) {
+            return None;
+        }
+        Some(Streets {
+            net: Network { bytes: net },
+            legs,
         })
     }
 }

@@ -14,8 +14,7 @@ use Rattle.refusals.specs.declared.Refusal.{Refusal}
 use Rattle.refusals.specs.Numbers.{number_of}
 use Rattle.refusals.proofs.Positive.{positive}
 use Rattle.frames.proofs.EditionLaws.{frame_least, frame_most}
-use Rattle.frames.proofs.FrameLaws.{empty_fault, check_fault, size_fault, kind_fault, no_fault, framed_has, framed_good, framed_bad}
-use Rattle.network.proofs.CornerLaws.{corners_few}
+use Rattle.frames.proofs.FrameLaws.{empty_fault, check_fault, size_fault, kind_fault, no_fault, framed_has, framed_good, framed_bad, end_limits}
 use Rattle.digits.proofs.DigitLaws.{length_spelled, whole_line, line_after, line_digits, scan_tells, scan_breaks}
 use Rattle.std.proofs.lemmas.Bool.Decides.{nat_tests}
 use Rattle.std.specs.Prelude.{Result, Ok, Err, MatchResult, ⊤}
@@ -78,4 +77,4 @@ pub ruleset frame_read = (check_fault, kind_fault, no_fault)
 
 pub ruleset line_judged = (frame_least, frame_most, positive, framed_bad)
 
-pub ruleset frame_judged = (frame_least, framed_has, framed_good, corners_few, positive, nat_tests)
+pub ruleset frame_judged = (frame_least, framed_has, framed_good, end_limits, positive, nat_tests)

@@ -1,5 +1,5 @@
 -- The loop over the segments' lines. What is left to decide at line s + 2, with the legs taken and the bytes kept so far, is the whole, and the
--- index is that of those legs: a faulty line, the end of the text and a good line are each one step of `segment_lines`.
+-- nodes' bytes have just those legs: a faulty line, the end of the text and a good line are each one step of `segment_lines`.
 -- Assumes nothing.
 use Prim.Native.Nat.{ℕ, zero, suc, ◌+◌, ◌*◌, ◌-◌, ◌≤◌, ◌<◌}
 use mathlib.Core.Bool.{Bool, true, false}
@@ -24,9 +24,8 @@ use Rattle.frames.proofs.EditionLaws.{frame_least}
 use Rattle.frames.proofs.FrameLaws.{framed_good, framed_bad, limited}
 use Rattle.network.specs.Legs.{taking}
 use Rattle.network.specs.Faults.{segment_fault}
-use Rattle.network.specs.Steps.Corners.{Indexed}
-use Rattle.network.specs.Steps.Checks.{claimed}
-use Rattle.network.proofs.CornerLaws.{corners_few, index_fault_lem, claimed_indexed}
+use Rattle.network.specs.Steps.Taken.{Gathered, ends_of, claimed}
+use Rattle.network.proofs.TakenLaws.{legs_fault_lem, claimed_gathered}
 use Rattle.network.proofs.FaultLaws.{Faultless, faultless}
 use Rattle.digits.specs.Digits.{line_of, bytes_of, rest_of}
 use Rattle.digits.proofs.DigitLaws.{line_after}
@@ -73,38 +72,36 @@ module _ (e n at : ℕ) (taken sofar text : List ℕ) where
   line_beyond x h f = rw (h, f)
 
 -- ---- the loop: these lines are left, of those after the head
-pub record Going (h all : List ℕ) (head : Head) (s : ℕ) (rest d : List ℕ) : Type 0 where
+pub record Going (h all : List ℕ) (head : Head) (s : ℕ) (rest legs : List ℕ) : Type 0 where
   pub taken : List ℕ
   pub sofar : List ℕ
-  pub runs : length taken ≡ 2 * s
   pub long : length sofar ≡ 7 + frame_bytes head.edition * s
   pub low : s ≤ head.segments
   pub limited : Limited head
-  pub indexed : Indexed head.nodes taken d
+  pub gathered : Gathered head.nodes taken legs
   pub whole : segment_lines head.edition head.nodes (head.segments - s) (s + 2) taken sofar rest ≡ segment_lines head.edition head.nodes head.segments 2 [] h all
 
-pub starts : {h all : List ℕ} {head : Head} {d : List ℕ} → length h ≡ 7 → Limited head → Indexed head.nodes [] d → Going h all head 0 all d
-starts {h} {all} {head} {d} l o x =
+pub starts : {h all : List ℕ} {head : Head} {legs : List ℕ} → length h ≡ 7 → Limited head → Gathered head.nodes [] legs → Going h all head 0 all legs
+starts {h} {all} {head} {legs} l o x =
     record {
       taken = [];
       sofar = h;
-      runs = refl;
       long = l ∙ ap (λ (z : ℕ). 7 + z) (sym (mul-zero (frame_bytes head.edition)));
       low = omega arith;
       limited = o;
-      indexed = x;
+      gathered = x;
       whole = rw sub-zero;
     }
 
-module _ {h all : List ℕ} {head : Head} {s : ℕ} {rest d : List ℕ} (w : Going h all head s rest d) where
-  -- a line's number by the index is its number by the legs taken
-  numbered : {x : ℕ} → fault_after head s d (line_bytes rest) ≡ x → segment_fault head.edition head.nodes (ltb s head.segments) w.taken (line_bytes rest) ≡ x
-  numbered f = sym (index_fault_lem w.indexed head.edition (ltb s head.segments) (line_bytes rest)) ∙ f
+module _ {h all : List ℕ} {head : Head} {s : ℕ} {rest legs : List ℕ} (w : Going h all head s rest legs) where
+  -- a line's number by the nodes' bytes is its number by the legs taken
+  numbered : {x : ℕ} → fault_after head s legs (line_bytes rest) ≡ x → segment_fault head.edition head.nodes (ltb s head.segments) w.taken (line_bytes rest) ≡ x
+  numbered f = sym (legs_fault_lem w.gathered head.edition (ltb s head.segments) (line_bytes rest)) ∙ f
 
-  pub refuses : {d' : List ℕ} {r : Result ⊤ Refusal} {fault : Refusal} → is_empty rest ≡ false
-      → LineJudged rest head s d d' r → r ≡ Err fault
+  pub refuses : {legs' : List ℕ} {r : Result ⊤ Refusal} {fault : Refusal} → is_empty rest ≡ false
+      → LineJudged rest head s legs legs' r → r ≡ Err fault
       → told (Err (refused_at fault (s + 2))) ≡ told_of (segment_lines head.edition head.nodes head.segments 2 [] h all)
-  refuses {d'} {r} {fault} l g x =
+  refuses {legs'} {r} {fault} l g x =
       ap told_of (sym (go (ltb s head.segments) refl (numbered (tells_fault _ g.answer x))) ∙ w.whole)
     where
       go : (m : Bool) → ltb s head.segments ≡ m → segment_fault head.edition head.nodes m w.taken (line_bytes rest) ≡ number_of fault
@@ -131,8 +128,8 @@ module _ {h all : List ℕ} {head : Head} {s : ℕ} {rest d : List ℕ} (w : Goi
       ∙ ap told_of (sym (all_kept head.edition head.nodes (s + 2) w.taken w.sofar rest l) ∙ rw z at w.whole)
 
   -- a line that has no fault is a frame's
-  module _ {d' : List ℕ} {r : Result ⊤ Refusal} {done : ⊤} (g : LineJudged rest head s d d' r) (x : r ≡ Ok done) where
-    no_fault : fault_after head s d (line_bytes rest) ≡ 0
+  module _ {legs' : List ℕ} {r : Result ⊤ Refusal} {done : ⊤} (g : LineJudged rest head s legs legs' r) (x : r ≡ Ok done) where
+    no_fault : fault_after head s legs (line_bytes rest) ≡ 0
     no_fault = tells_frame _ g.answer x
 
     good : Faultless head.edition head.nodes (ltb s head.segments) w.taken (line_bytes rest)
@@ -145,23 +142,21 @@ module _ {h all : List ℕ} {head : Head} {s : ℕ} {rest d : List ℕ} (w : Goi
     room e = omega (arith, e, after.0)
 
     pub goes_on : {size : ℕ} → size ≡ frame_bytes head.edition → is_empty rest ≡ false
-        → Going h all head (s + 1) (take (length rest - (2 * size + 1)) (drop (2 * size + 1) rest)) d'
+        → Going h all head (s + 1) (take (length rest - (2 * size + 1)) (drop (2 * size + 1) rest)) legs'
     goes_on {size} e l =
         let f : List ℕ = line_bytes rest in
         let k = good in
         let z : segment_fault head.edition head.nodes true w.taken f ≡ 0 =
         subst (λ (y : Bool). segment_fault head.edition head.nodes y w.taken f ≡ 0) k.counted (numbered no_fault) in
-        let o = corners_few head.nodes f k.follows.ends in
         let below : s < head.segments = ltb-true s head.segments k.counted in
-        let i : d' ≡ claimed d s f = g.index ∙ rw no_fault in
+        let i : legs' ≡ claimed legs (ends_of f) = g.legs no_fault in
         record {
           taken = taking w.taken f;
           sofar = w.sofar ++ f;
-          runs = omega (arith, w.runs);
           long = omega (arith, w.long, length-append w.sofar f, k.follows.size, times_next (frame_bytes head.edition) s);
           low = omega arith;
           limited = w.limited;
-          indexed = subst (λ (j : List ℕ). Indexed head.nodes (taking w.taken f) j) (sym i) (claimed_indexed w.indexed s f w.runs o.0 o.1);
+          gathered = subst (λ (j : List ℕ). Gathered head.nodes (taking w.taken f) j) (sym i) (claimed_gathered w.gathered f k.follows.ends);
           whole =
               let e₁ : s + 1 + 2 ≡ s + 2 + 1 = omega arith in
               let e₂ : take (length rest - (2 * size + 1)) (drop (2 * size + 1) rest) ≡ rest_of (line_of rest) =

@@ -1,10 +1,10 @@
 // Read: a first pass over the text finds the first fault and writes nothing; a second pass writes the bytes.
-ghost use Rattle.std.specs.Prelude.{◌+◌, ◌*◌, ◌/◌, ◌≤◌, ◌<◌, ◌≡◌, [], ◌++◌, length, drop};
+ghost use Rattle.std.specs.Prelude.{◌+◌, ◌*◌, ◌≤◌, ◌<◌, ◌≡◌, [], ◌++◌, length, drop};
 ghost use Rattle.frames.specs.Edition.{frame_bytes};
 ghost use Rattle.frames.specs.Steps.Sizes.{county_size, most_bytes};
 ghost use Rattle.frames.specs.Frame.{head_bytes, nodes};
 ghost use Rattle.frames.specs.Faults.{framed};
-ghost use Rattle.network.specs.Steps.Corners.{Indexed};
+ghost use Rattle.network.specs.Steps.Taken.{Gathered};
 ghost use Rattle.network.specs.Steps.Checks.{HeadFits};
 ghost use Rattle.text.specs.Read.{read_of};
 ghost use Rattle.text.specs.Told.{refused_at, told, told_of, ReadDid};
@@ -19,8 +19,8 @@ use frames::frame::{Frame, sum_of};
 use frames::ranges::{ends_ok, head_ok};
 use frames::sizes::is_town;
 use frames::{Head, fields, sizes};
-use network::corners::{COUNTY_CORNERS, TOWN_CORNERS, claim_legs, free_corners};
 use network::kept::kept_bytes;
+use network::legs::{claim_legs, ends_of, no_legs};
 use refusals::Refusal;
 
 // Reads the first line of what is left of a text into the buffer, where it has as many bytes as the buffer: then its digits and its 0A stand where they
@@ -77,9 +77,9 @@ fn frame_line(rest: &[u8], kind: u8, frame: &mut [u8]) -> Result<(), Refusal>
 
 // Judges the frame of segment s, whose line had no fault of its own, and takes its legs where it has no fault either.
 #[tactic(auto, using(crate::proofs::LineLaws::frame_judged))]
-fn judge_frame(frame: &[u8], head: Head, s: usize, index: &mut [u16]) -> Result<(), Refusal>
-    requires { (framed 2 (frame_bytes head.edition) frame.now 0 ≡ 0) × HeadFits head index.old }
-    ensures { SegmentJudged frame.now head s index.old index.new result }
+fn judge_frame(frame: &[u8], head: Head, s: usize, legs: &mut [u8]) -> Result<(), Refusal>
+    requires { (framed 2 (frame_bytes head.edition) frame.now 0 ≡ 0) × HeadFits head legs.old }
+    ensures { SegmentJudged frame.now head s legs.old legs.new result }
 {
     if head.segments <= s {
         return Err(Refusal::WrongCount);
@@ -94,7 +94,7 @@ fn judge_frame(frame: &[u8], head: Head, s: usize, index: &mut [u16]) -> Result<
     if !ends_ok(frame, head.nodes) {
         return Err(Refusal::WrongField);
     }
-    if !claim_legs(frame, s, index) {
+    if !claim_legs(ends_of(frame), legs) {
         return Err(Refusal::LegTaken);
     }
     Ok(())
@@ -107,23 +107,23 @@ fn judge_line(
     head: Head,
     s: usize,
     frame: &mut [u8],
-    index: &mut [u16],
+    legs: &mut [u8],
 ) -> Result<(), Refusal>
-    requires { HeadFits head index.old × (length frame.old ≡ frame_bytes head.edition) }
-    ensures { LineJudged rest.now head s index.old index.new result }
+    requires { HeadFits head legs.old × (length frame.old ≡ frame_bytes head.edition) }
+    ensures { LineJudged rest.now head s legs.old legs.new result }
 {
     frame_line(rest, fields::SEGMENT_KIND, frame)?;
-    judge_frame(frame, head, s, index)
+    judge_frame(frame, head, s, legs)
 }
 
 // The same with a buffer of its own.
-fn segment_line(rest: &[u8], head: Head, s: usize, index: &mut [u16]) -> Result<(), Refusal>
-    requires { HeadFits head index.old }
-    ensures { LineJudged rest.now head s index.old index.new result }
+fn segment_line(rest: &[u8], head: Head, s: usize, legs: &mut [u8]) -> Result<(), Refusal>
+    requires { HeadFits head legs.old }
+    ensures { LineJudged rest.now head s legs.old legs.new result }
 {
     let mut frame = [0u8; sizes::MOST_BYTES];
     let size = frame_bytes(head.edition);
-    judge_line(rest, head, s, &mut frame[..size], index)
+    judge_line(rest, head, s, &mut frame[..size], legs)
 }
 
 // A refusal of the line with this number.
@@ -133,10 +133,10 @@ fn refused_at(refusal: Refusal, line: usize) -> Refused
     Refused { refusal, line }
 }
 
-// The answer for the lines after a good head, with an index that has room for the head's nodes. A line that has no fault is as long as each other one.
+// The answer for the lines after a good head, with a byte for each of the head's nodes. A line that has no fault is as long as each other one.
 #[tactic(auto, using(crate::proofs::LinesRead::lines_judged))]
-fn judge_lines(lines: &[u8], first: &GoodHead, index: &mut [u16]) -> Result<usize, Refused>
-    requires { Indexed (nodes first.now.bytes) [] index.old }
+fn judge_lines(lines: &[u8], first: &GoodHead, legs: &mut [u8]) -> Result<usize, Refused>
+    requires { Gathered (nodes first.now.bytes) [] legs.old }
     ensures { told result ≡ told_of (lines_after first.now.bytes lines.now) }
 {
     let head = head_of(&first.bytes);
@@ -144,7 +144,7 @@ fn judge_lines(lines: &[u8], first: &GoodHead, index: &mut [u16]) -> Result<usiz
     let mut s: usize = 0;
     let mut rest = lines;
     while !rest.is_empty() {
-        segment_line(rest, head, s, index).map_err(|refusal| refused_at(refusal, s + 2))?;
+        segment_line(rest, head, s, legs).map_err(|refusal| refused_at(refusal, s + 2))?;
         rest = &rest[line..];
         s += 1;
     }
@@ -154,13 +154,13 @@ fn judge_lines(lines: &[u8], first: &GoodHead, index: &mut [u16]) -> Result<usiz
     Ok(kept_bytes(head))
 }
 
-// The same in memory of its own for so many corners.
-fn judge_in<const CORNERS: usize>(lines: &[u8], first: &GoodHead) -> Result<usize, Refused>
-    requires { (nodes first.now.bytes ≤ CORNERS / 8) × (CORNERS ≤ 8 * county_size) }
+// The same in memory of its own for so many nodes.
+fn judge_in<const NODES: usize>(lines: &[u8], first: &GoodHead) -> Result<usize, Refused>
+    requires { (nodes first.now.bytes ≤ NODES) × (NODES ≤ county_size) }
     ensures { told result ≡ told_of (lines_after first.now.bytes lines.now) }
 {
-    let mut index = free_corners::<CORNERS>();
-    judge_lines(lines, first, &mut index)
+    let mut legs = no_legs::<NODES>();
+    judge_lines(lines, first, &mut legs)
 }
 
 // The same in a county's memory. It is never inlined, so that a town takes no stack for a county.
@@ -168,7 +168,7 @@ fn judge_in<const CORNERS: usize>(lines: &[u8], first: &GoodHead) -> Result<usiz
 pub fn judge_in_county(lines: &[u8], first: &GoodHead) -> Result<usize, Refused>
     ensures { told result ≡ told_of (lines_after first.now.bytes lines.now) }
 {
-    judge_in::<COUNTY_CORNERS>(lines, first)
+    judge_in::<{ sizes::COUNTY }>(lines, first)
 }
 
 // The same in a town's memory, where the network is no larger.
@@ -178,7 +178,7 @@ fn judge_segments(lines: &[u8], first: &GoodHead) -> Result<usize, Refused>
 {
     let head = head_of(&first.bytes);
     if is_town(head.nodes, head.segments) {
-        judge_in::<TOWN_CORNERS>(lines, first)
+        judge_in::<{ sizes::TOWN }>(lines, first)
     } else {
         judge_in_county(lines, first)
     }

@@ -1,67 +1,58 @@
--- What the functions that judge segments' frames promise one another, in test 8 and in Read: they go by the corner index, where the definitions go by the
--- legs taken.
+-- What the functions that judge segments' frames promise one another, in test 8 and in Read: they go by the bytes of used legs, where the definitions
+-- go by the legs taken.
 -- Assumes nothing.
-use Rattle.std.specs.Prelude.{ℕ, ◌+◌, ◌*◌, ◌≤◌, ◌<◌, Bool, true, cond, ◌&&◌, not, ◌≡◌, List, [], eqb, leb, length, get_or, set}
+use Rattle.std.specs.Prelude.{ℕ, ◌≤◌, Bool, true, false, ◌&&◌, not, ◌≡◌, List, [], Option, MatchOption, eqb, leb, length}
 use Rattle.frames.specs.declared.Head.{Head}
-use Rattle.frames.specs.Edition.{segment_bytes}
-use Rattle.frames.specs.Steps.Sizes.{county_size, is_town, Limited}
+use Rattle.frames.specs.Steps.Sizes.{is_town, Limited}
 use Rattle.frames.specs.Frame.{head_bytes}
 use Rattle.frames.specs.Ranges.{head_ok}
-use Rattle.network.specs.Legs.{corner_a, corner_b}
+use Rattle.network.specs.declared.legs.Ends.{Ends}
 use Rattle.network.specs.Faults.{line_fault}
 use Rattle.network.specs.Network.{head_of, nodes_of, segments_of, frames_ok, is_network}
-use Rattle.network.specs.Steps.Corners.{Indexed, corners_from, IndexOf}
+use Rattle.network.specs.Steps.Taken.{Gathered, ends_of, free_in, claimed}
+use Rattle.network.specs.Steps.Corners.{Indexed, corners_from, corners_of}
 
--- No leg of this frame is taken in the index, nor are its two legs one; and the index with both legs taken by segment s.
-unfoldable pub free_in : List ℕ → List ℕ → Bool
-free_in index f = eqb (get_or index (corner_a f) 0) 0 && eqb (get_or index (corner_b f) 0) 0 && not (eqb (corner_a f) (corner_b f))
+-- The fault of a segment's line by the bytes of used legs, in place of the legs taken.
+abbrev pub legs_fault : ℕ → ℕ → Bool → List ℕ → List ℕ → ℕ
+legs_fault e n more legs f = line_fault e n more (free_in legs (ends_of f)) f
 
-abbrev pub claimed : List ℕ → ℕ → List ℕ → List ℕ
-claimed index s f = set (set index (corner_a f) (s * 2 + 1)) (corner_b f) (s * 2 + 2)
-
--- The frame of a segment s whose two corners have their entries in the index.
-pub record Claimable (f : List ℕ) (s : ℕ) (index : List ℕ) : Type 0 where
-  pub frame : segment_bytes ≤ length f
-  pub counted : s < county_size
-  pub corner_a_fits : corner_a f < length index
-  pub corner_b_fits : corner_b f < length index
-
--- Claiming the legs of segment s: whether they were free, and the index after it, which changes only then.
-pub record Claimed (f : List ℕ) (s : ℕ) (before after : List ℕ) (r : Bool) : Type 0 where
-  pub answer : r ≡ free_in before f
-  pub index : after ≡ cond (free_in before f) (claimed before s f) before
-
--- The fault of a segment's line by the corner index, in place of the legs taken.
-abbrev pub index_fault : ℕ → ℕ → Bool → List ℕ → List ℕ → ℕ
-index_fault e n more index f = line_fault e n more (free_in index f) f
-
--- A head with no more nodes and segments than a county, and room for its nodes in the index.
-pub record HeadFits (head : Head) (index : List ℕ) : Type 0 where
+-- A head with no more nodes and segments than a county, and a byte for each of its nodes.
+pub record HeadFits (head : Head) (legs : List ℕ) : Type 0 where
   pub limited : Limited head
-  pub room : head.nodes * 8 ≤ length index
+  pub room : head.nodes ≤ length legs
 
--- The frame of segment s judged where it stands in kept bytes, after a head.
-pub record SegmentChecked (f : List ℕ) (head : Head) (s : ℕ) (before after : List ℕ) (r : Bool) : Type 0 where
-  pub answer : r ≡ eqb (index_fault head.edition head.nodes true before f) 0
-  pub index : r ≡ true → after ≡ claimed before s f
+-- The frame of a segment judged where it stands in kept bytes, after a head: where it has no fault its ends are told, and their legs claimed.
+abbrev pub SegmentChecked : List ℕ → Head → List ℕ → List ℕ → Option Ends → Type 0
+SegmentChecked f head before after r =
+    MatchOption r (eqb (legs_fault head.edition head.nodes true before f) 0 ≡ false)
+    (λ ends. (eqb (legs_fault head.edition head.nodes true before f) 0 ≡ true) × (ends ≡ ends_of f) × (after ≡ claimed before ends))
 
--- The test of the segment frames that a head counts, at the front of the bytes after it: its answer, and where it passes, the index of their corners.
-pub record FramesChecked (head : Head) (bytes after : List ℕ) (r : Bool) : Type 0 where
+-- An index that is to be filled has these corners.
+abbrev pub FramesIndexed : Bool → ℕ → List ℕ → List ℕ → Type 0
+FramesIndexed indexed n taken index = indexed ≡ true → Indexed n taken index
+
+-- The test of the segment frames that a head counts, at the front of the bytes after it: its answer, and where it passes, their used legs, and the index of
+-- their runs if it is to be filled.
+pub record FramesChecked (indexed : Bool) (head : Head) (bytes legs' index' : List ℕ) (r : Bool) : Type 0 where
   pub answer : r ≡ frames_ok head.edition head.nodes head.segments [] bytes
-  pub index : r ≡ true → Indexed head.nodes (corners_from head.edition head.segments [] bytes) after
+  pub legs : r ≡ true → Gathered head.nodes (corners_from head.edition head.segments [] bytes) legs'
+  pub index : r ≡ true → FramesIndexed indexed head.nodes (corners_from head.edition head.segments [] bytes) index'
 
 -- A head in order says no more than so many nodes.
 pub record FewNodes (most : ℕ) (net : List ℕ) : Type 0 where
   pub few : head_bytes ≤ length net → head_ok (head_of net) ≡ true → nodes_of net ≤ most
 
--- An index with every leg free, and room for the nodes that a head in order says.
-pub record Awaits (net index : List ℕ) : Type 0 where
-  pub free : head_bytes ≤ length net → head_ok (head_of net) ≡ true → Indexed (nodes_of net) [] index
+-- Bytes with no leg used, one for each of the nodes that a head in order says; and an index with every leg free, if it is to be filled.
+pub record Awaits (net legs : List ℕ) : Type 0 where
+  pub free : head_bytes ≤ length net → head_ok (head_of net) ≡ true → Gathered (nodes_of net) [] legs
 
--- The test of kept bytes: its answer, and where it passes, the index of the network's corners.
-pub record Checked (net after : List ℕ) (r : Bool) : Type 0 where
+pub record AwaitsRuns (indexed : Bool) (net index : List ℕ) : Type 0 where
+  pub free : head_bytes ≤ length net → head_ok (head_of net) ≡ true → FramesIndexed indexed (nodes_of net) [] index
+
+-- The test of kept bytes: its answer, and where it passes, the network's used legs.
+pub record Checked (net legs' : List ℕ) (r : Bool) : Type 0 where
   pub answer : r ≡ is_network net
-  pub index : r ≡ true → IndexOf net after
+  pub legs : r ≡ true → Gathered (nodes_of net) (corners_of net) legs'
 
 -- The bytes are more than a town: their head is in order, and says more nodes or segments than a town has.
 unfoldable pub is_county : List ℕ → Bool

@@ -1,9 +1,11 @@
--- The corner index: which run leaves by which leg. Run 2s leaves by the A end of segment s, run 2s + 1 by its B end.
+-- The index of runs: which run leaves by which leg. Run 2s leaves by the A end of segment s, run 2s + 1 by its B end.
 -- Assumes nothing.
-use Rattle.std.specs.Prelude.{ℕ, zero, suc, ◌+◌, ◌*◌, ◌≤◌, ◌<◌, cond, ◌≡◌, ◌⊎◌, List, [], ◌∷◌, Option, Some, None, eqb, length, get_or, take, drop}
+use Rattle.std.specs.Prelude.{ℕ, zero, suc, ◌+◌, ◌*◌, ◌≤◌, ◌<◌, cond, ◌≡◌, ◌⊎◌, List, [], ◌∷◌, Option, Some, None, eqb, length, get_or, set, take, drop}
 use Rattle.frames.specs.Edition.{frame_bytes}
+use Rattle.frames.specs.Steps.Sizes.{county_size}
 use Rattle.frames.specs.Frame.{head_bytes}
-use Rattle.network.specs.Legs.{corner_a, corner_b, taking}
+use Rattle.network.specs.declared.legs.Ends.{Ends}
+use Rattle.network.specs.Legs.{corner, corner_a, corner_b, taking}
 use Rattle.network.specs.Network.{edition_of, nodes_of, segments_of, frame_of}
 
 -- Of corners listed by their runs, the last run first: 0 where no run leaves by this corner, else 1 + the run that does.
@@ -19,6 +21,16 @@ pub record Indexed (n : ℕ) (taken index : List ℕ) : Type 0 where
 -- An index with every leg free, with room for at most so many nodes.
 abbrev pub NoCorners : ℕ → List ℕ → Type 0
 NoCorners most index = (n : ℕ) → n ≤ most → Indexed n [] index
+
+-- The index with both runs of segment s entered.
+abbrev pub with_runs : List ℕ → ℕ → Ends → List ℕ
+with_runs index s e = set (set index (corner e.node_a e.leg_a) (s * 2 + 1)) (corner e.node_b e.leg_b) (s * 2 + 2)
+
+-- The index has entries for both ends of a segment s.
+pub record RunsRoom (e : Ends) (s : ℕ) (index : List ℕ) : Type 0 where
+  pub counted : s < county_size
+  pub a_fits : corner e.node_a e.leg_a < length index
+  pub b_fits : corner e.node_b e.leg_b < length index
 
 -- The run that an entry tells; none where the leg is free.
 abbrev pub run_leaving : ℕ → Option ℕ

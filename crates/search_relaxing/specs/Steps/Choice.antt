@@ -32,7 +32,7 @@ every_leg leg (Leg last) spent = cond (eqb last leg) None (Some (record { first 
 every_leg leg Nothing spent = None
 
 -- ---- What holds of a choice
--- The entry of the corner index at the leg k after the first, going round.
+-- The entry of the index of runs at the leg k after the first, going round.
 abbrev pub entry_after : List ℕ → ℕ → ℕ → ℕ → ℕ
 entry_after index node first k = at index (node * 8 + (first + k) % 8)
 

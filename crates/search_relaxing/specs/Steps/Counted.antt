@@ -19,12 +19,12 @@ pub record Counted (net : List ℕ) (n : ℕ) : Type 0 where
   pub network : is_network net ≡ true
   pub count : n ≡ runs_of net
 
--- The network of a question, and the index of its corners.
+-- The network of a question, and the index of its runs.
 abbrev pub network_in : Ask → List ℕ
 network_in ask = ask.streets.net.bytes.now
 
 abbrev pub index_in : Ask → List ℕ
-index_in ask = ask.streets.index.now
+index_in ask = ask.index.now
 
 -- What a search from a node at a tolerance sees of it.
 abbrev pub run_graph : List ℕ → ℕ → ℕ → ℕ → Graph

@@ -75,7 +75,7 @@ pub record RightOnly (net : List ℕ) (t u : ℕ) : Type 0 where
   pub turn : arrival_turn_level net u ≤ t
   pub across : t < max (arrival_turn_level net u) (arrival_crossing_level net u)
 
--- The run behind an entry of the corner index, where there is one, is one of the n runs.
+-- The run behind an entry of the index of runs, where there is one, is one of the n runs.
 abbrev pub RunBehind : ℕ → ℕ → Type 0
 RunBehind n entry = (r : ℕ) → entry ≡ r + 1 → r < n
 
@@ -87,7 +87,7 @@ to_usable net t u r = usable (bicycle net) t r
 abbrev pub to_each : ℕ → ℕ → Bool
 to_each u r = true
 
--- A movement from u within the tolerance leads onto the run behind an entry of the corner index, where there is one: so an edge leads to it exactly
+-- A movement from u within the tolerance leads onto the run behind an entry of the index of runs, where there is one: so an edge leads to it exactly
 -- when it is usable.
 pub record Way (net : List ℕ) (t n u entry : ℕ) : Type 0 where
   pub inside : RunBehind n entry

@@ -34,7 +34,7 @@ pub record Enough (ask : Ask) (keys numbers : ℕ) : Type 0 where
   pub few_keys : keys ≤ 4 * county_size
   pub few_numbers : numbers ≤ county_size
 
--- The run behind an entry of the corner index may get its first label.
+-- The run behind an entry of the index of runs may get its first label.
 pub record Seedable (ask : Ask) (entry : ℕ) (best previous tree : List ℕ) : Type 0 where
   pub few : entry ≤ ask.runs
   pub room : Room ask.runs best previous

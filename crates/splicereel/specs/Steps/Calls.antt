@@ -7,6 +7,7 @@ use Rattle.refusals.specs.declared.Refusal.TheVariants.{NotANetwork, TooFewEntri
 use Rattle.refusals.specs.Numbers.{number_of, unless}
 use Rattle.network.specs.Network.{nodes_of, is_network}
 use Rattle.frames.specs.Steps.Sizes.{county_size}
+use Rattle.network.specs.Steps.Corners.{IndexOf}
 use Rattle.network.specs.Steps.Checks.{FewNodes}
 use Rattle.streets.specs.Runs.{runs_of, is_open}
 use Rattle.streets.specs.declared.kept.Streets.{Streets}
@@ -35,6 +36,10 @@ Tested test why Is result = MatchResult result (λ x. (test ≡ true) × Is x) (
 -- The streets are those of the network.
 abbrev pub NetworkTested : List ℕ → Result Streets Refusal → Type 0
 NetworkTested net result = Tested (is_network net) NotANetwork (λ s. s.net.bytes.now ≡ net) result
+
+-- The same, and the index has the network's runs.
+abbrev pub NetworkIndexed : List ℕ → List ℕ → Result Streets Refusal → Type 0
+NetworkIndexed net index result = Tested (is_network net) NotANetwork (λ s. (s.net.bytes.now ≡ net) × IndexOf net index) result
 
 -- Both scratch slices have a number for each run.
 abbrev pub scratch_fits : ℕ → ℕ → ℕ → Bool

@@ -1,4 +1,4 @@
--- Which run leaves a node by which leg, as the corner index tells it.
+-- Which run leaves a node by which leg, as the index of runs tells it.
 -- Assumes nothing.
 use Rattle.std.specs.Prelude.{ℕ, ◌+◌, ◌*◌, ◌-◌, ◌%◌, ◌<◌, ◌≡◌, List}
 use Rattle.streets.specs.Runs.{runs_of, start, leaving_leg}
@@ -13,6 +13,6 @@ pub record Leaves (net : List ℕ) (node leg r : ℕ) : Type 0 where
   pub from : start net r ≡ node
   pub by : leaving_leg net r ≡ leg
 
--- An entry of the corner index, at a leg of a node: 0, or 1 + the run that leaves by it.
+-- An entry of the index of runs, at a leg of a node: 0, or 1 + the run that leaves by it.
 pub record Entry (net : List ℕ) (node leg entry : ℕ) : Type 0 where
   pub leaving : (r : ℕ) → entry ≡ r + 1 → Leaves net node leg r

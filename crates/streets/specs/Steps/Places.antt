@@ -1,9 +1,8 @@
 -- What the code learns of a run beside its values: which frame is its segment's, that a node and a leg are in their ranges; and what a run meets where it
 -- arrives.
 -- Assumes nothing.
-use Rattle.std.specs.Prelude.{ℕ, ◌<◌, max, ◌≡◌, cond, Bool, true, not, List, eqb, get_or}
+use Rattle.std.specs.Prelude.{ℕ, ◌<◌, max, ◌≡◌, cond, true, List, eqb}
 use Rattle.frames.specs.declared.frame.Frame.{Frame}
-use Rattle.network.specs.Legs.{corner}
 use Rattle.network.specs.Network.{edition_of, nodes_of, frame_of, is_network}
 use Rattle.streets.specs.declared.movements.Approach.{Approach}
 use Rattle.streets.specs.declared.movements.Arrival.{Arrival}
@@ -15,10 +14,6 @@ use Rattle.streets.specs.Bicycle.{arrival_turn_level, arrival_crossing_level}
 pub record RunOf (net : List ℕ) (r : ℕ) : Type 0 where
   pub network : is_network net ≡ true
   pub inside : r < runs_of net
-
--- A leg is used, by the corner index: its entry is not 0.
-abbrev pub used_in : List ℕ → ℕ → ℕ → Bool
-used_in index node leg = not (eqb (get_or index (corner node leg) 0) 0)
 
 -- This is the frame of segment s, of the network's edition.
 pub record FrameOf (net : List ℕ) (s : ℕ) (f : Frame) : Type 0 where

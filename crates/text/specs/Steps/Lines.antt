@@ -1,12 +1,13 @@
 -- What the steps of Read promise of one line.
 -- Assumes nothing.
-use Rattle.std.specs.Prelude.{ℕ, ◌+◌, ◌*◌, ◌≤◌, Bool, true, cond, ◌≡◌, List, [], eqb, ltb, length, drop, Result, Ok, Err, ⊤}
+use Rattle.std.specs.Prelude.{ℕ, ◌+◌, ◌*◌, ◌≤◌, Bool, true, ◌≡◌, List, [], eqb, ltb, length, drop, Result, Ok, Err, ⊤}
 use Rattle.refusals.specs.declared.Refusal.{Refusal}
 use Rattle.refusals.specs.Numbers.{number_of}
 use Rattle.frames.specs.declared.Head.{Head}
 use Rattle.frames.specs.Frame.{head_bytes, edition, nodes, segments}
 use Rattle.frames.specs.Faults.{framed}
-use Rattle.network.specs.Steps.Checks.{claimed, index_fault}
+use Rattle.network.specs.Steps.Taken.{claimed, ends_of}
+use Rattle.network.specs.Steps.Checks.{legs_fault}
 use Rattle.digits.specs.Digits.{line_of, bytes_of}
 use Rattle.text.specs.declared.GoodHead.{GoodHead}
 use Rattle.text.specs.Read.{Reading, refused, segment_lines, read_of}
@@ -43,14 +44,14 @@ abbrev pub HeadJudged : List ℕ → ℕ → Result GoodHead Refusal → Type 0
 HeadJudged text room (Ok first) = (2 * head_bytes + 1 ≤ length text) × (read_of text room ≡ lines_after first.bytes (drop (2 * head_bytes + 1) text))
 HeadJudged text room (Err fault) = read_of text room ≡ refused (number_of fault) 1
 
--- The fault of the line of segment s, after this head, by the corner index.
+-- The fault of the line of segment s, after this head, by the bytes of used legs.
 abbrev pub fault_after : Head → ℕ → List ℕ → List ℕ → ℕ
-fault_after head s index f = index_fault head.edition head.nodes (ltb s head.segments) index f
+fault_after head s legs f = legs_fault head.edition head.nodes (ltb s head.segments) legs f
 
 -- The frame of segment s judged; its legs are claimed where it has no fault.
 pub record SegmentJudged (f : List ℕ) (head : Head) (s : ℕ) (before after : List ℕ) (r : Result ⊤ Refusal) : Type 0 where
   pub answer : Tells (fault_after head s before f) r
-  pub index : after ≡ cond (eqb (fault_after head s before f) 0) (claimed before s f) before
+  pub legs : fault_after head s before f ≡ 0 → after ≡ claimed before (ends_of f)
 
 -- The same of a text's first line.
 abbrev pub LineJudged : List ℕ → Head → ℕ → List ℕ → List ℕ → Result ⊤ Refusal → Type 0

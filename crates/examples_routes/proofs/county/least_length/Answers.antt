@@ -1,12 +1,13 @@
 -- `examples_routes::county::least_length` meets its contract: the tests before the search are what it asks, and one node is a goal.
-use Rattle.network.proofs.SizeLaws.{county_awaits, county_few}
+use Rattle.network.proofs.SizeLaws.{few_await, few_await_runs, county_heads, county_few}
 use Rattle.search_routes.proofs.OneGoal.{goals_long, other_node}
 use native.Mathlib.Omega.{arith}
 use Rattle.examples_routes.proofs.county.least_length.Goals as goal
 
-pub of-requires : goal.of-requires
-of-requires c =
-    county_awaits c.free_corners-index.ensures
+pub indexed-requires : goal.indexed-requires
+indexed-requires c =
+    let heads = county_heads c.args.net.now in
+    (few_await heads c.no_legs-legs.ensures, few_await_runs heads c.free_corners-index.ensures)
 
 pub bounds-goals-to : goal.bounds-goals-to
 bounds-goals-to c =

@@ -14,7 +14,7 @@ returns-then-approach-ask c =
 
 pub returns-then-approach-ask-2 : goal.returns-then-approach-ask-2
 returns-then-approach-ask-2 c =
-    chosen_right (arriving c.requires.0) c.args.unfound.now (record { turn = omega arith; across = omega arith })
+    chosen_right (arriving c.requires.0) c.args.unfound.now c.args.ask.now.streets.gathered (record { turn = omega arith; across = omega arith })
     c.right_hand_exit.ensures c.to_find-rest.ensures c.in_default.not-Nothing c.right_leg.ensures
 
 pub returns : goal.returns

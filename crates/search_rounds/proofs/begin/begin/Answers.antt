@@ -24,7 +24,7 @@ entry_at index place leg l = grind (arith, common_steps)
 
 -- The run behind it leaves the start.
 start_leaves : (ask : Ask) {leg : ℕ} → leg < 8 → Entry (network_in ask) ask.from leg (at (index_in ask) (ask.from * 8 + leg))
-start_leaves ask l = entry_leaves (network_in ask) ask.streets.net.kept ask.streets.indexed ask.from_node l
+start_leaves ask l = entry_leaves (network_in ask) ask.streets.net.kept ask.indexed ask.from_node l
 
 pub begin_at-requires : goal.begin_at-requires
 begin_at-requires c =
@@ -49,13 +49,13 @@ loop-entry-preserved c =
 pub returns : goal.returns
 returns c =
     let ask = c.args.ask.now in
-    let e : c.loop-entry.entry-index ≡ 8 = omega (arith, ask.from_node, ask.streets.indexed.room, length-take {A = ℕ}, length-drop {A = ℕ}) in
+    let e : c.loop-entry.entry-index ≡ 8 = omega (arith, ask.from_node, ask.indexed.room, length-take {A = ℕ}, length-drop {A = ℕ}) in
     let S = rw e at c.loop-entry.invariant in
     record {
       labels =
           started_begun S
           (λ r l h.
-          leaving_entry (network_in ask) ask.streets.net.kept ask.streets.indexed (run_of (ask_counted ask) l) ask.from
+          leaving_entry (network_in ask) ask.streets.net.kept ask.indexed (run_of (ask_counted ask) l) ask.from
           (true_source (bicycle (network_in ask)) ask.tolerance ask.from r h).leaves);
       queued = started_queued S;
     }

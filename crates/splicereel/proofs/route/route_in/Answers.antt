@@ -14,13 +14,13 @@ find-least-requires g c =
     let T = c.in_ok-tolerance.ensures in (
       in_order c.nodes-nodes.ensures c.in_ok-check_node-2.ensures.0 (low_enough c.args.tolerance T.0 T.1) (omega arith) refl,
       rooms c.in_ok-check_room.ensures.0,
-      unmarked c.in_ok-streets.streets.net.kept c.in_ok-streets.ensures.1 c.requires.1 c.unknown-goals.ensures,
+      unmarked c.in_ok-streets.streets.net.kept c.in_ok-streets.ensures.1.0 c.requires.1 c.unknown-goals.ensures,
     )
 
 pub returns : goal.returns
 unfolding route_refusal nodes_refusal
 returns g c =
-    let net = c.in_ok-streets.ensures.1 in
+    let net = c.in_ok-streets.ensures.1.0 in
     let T = c.in_ok-tolerance.ensures in
     let same : c.map.result ≡ option_map (λ (told : LeastRoute). told.route) c.find-least.result = search rules in
     rw (same, ← net)

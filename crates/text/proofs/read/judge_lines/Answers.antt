@@ -1,4 +1,4 @@
--- The loop's invariant is `Going` of LinesRead.antt: what is left to decide is the whole; and the index keeps its length. The measure is the text left.
+-- The loop's invariant is `Going` of LinesRead.antt: what is left to decide is the whole; and the bytes stay as many as they were. The measure is the text left.
 use Prim.Native.Nat.{ℕ, ◌+◌, ◌*◌, ◌≤◌}
 use lib.ListN.{length}
 use mathlib.Core.List.{List, []}

@@ -1,6 +1,0 @@
--- A town's memory has room for the nodes that the head says, by its counts.
-use Rattle.splicereel.proofs.MemoryLaws.{town_corners, town_nodes}
-use Rattle.splicereel.proofs.route.route.Goals as goal
-
-pub route_in-requires : goal.route_in-requires
-route_in-requires c = (town_corners c.is_county.ensures c.if-is_county.false, town_nodes c.is_county.ensures c.if-is_county.false)
