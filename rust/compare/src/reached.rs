@@ -1,5 +1,6 @@
 //! What the comparisons reached, so that nothing is left out unseen.
 
+use crate::exits;
 use crate::lines::{self, EDGES, LENGTHS};
 use crate::question::{Question, Seen};
 use crate::reach::{self, GREATEST, LISTS, MARKED, MARKS, SCRATCH, TIES, VALUES};
@@ -66,6 +67,11 @@ impl Reached {
             self.count(format!("segment measure {}", told[1]));
             if let Some(street) = beside_parking(bytes, segment) {
                 self.count(street);
+            }
+        }
+        if let (Question::Movement { first, second }, 0) = (question, seen.number) {
+            for exit in exits::shown(bytes, first, second) {
+                self.count(exit);
             }
         }
         if let (Question::Search { .. }, 0, 1) = (question, seen.number, told[0]) {
@@ -303,6 +309,7 @@ fn must_reach() -> Vec<String> {
     for (reach, speed) in REACHES.iter().flat_map(|r| SPEEDS.map(|s| (r, s))) {
         all.extend(STREETS.map(|street| parking_case(reach, speed, street)));
     }
+    all.extend(exits::must_show());
     for call in ["route", "least"] {
         all.extend(["empty", "ridden"].map(|size| format!("{call} {size} route")));
     }

@@ -54,6 +54,8 @@ enum Fault {
     NarrowSegment,
     NarrowRun,
     NarrowTolerance,
+    ExitAbove,
+    ClosedRunsUncounted,
     Count,
     Level,
     Length,
@@ -89,7 +91,7 @@ enum Fault {
     ToldOnEntriesRefused,
 }
 
-const FAULTS: [Fault; 58] = [
+const FAULTS: [Fault; 60] = [
     Fault::Line,
     Fault::ByteKept,
     Fault::OutputPastTheEnd,
@@ -115,6 +117,8 @@ const FAULTS: [Fault; 58] = [
     Fault::NarrowSegment,
     Fault::NarrowRun,
     Fault::NarrowTolerance,
+    Fault::ExitAbove,
+    Fault::ClosedRunsUncounted,
     Fault::Count,
     Fault::Level,
     Fault::Length,
@@ -194,6 +198,43 @@ impl Faulty {
     }
 }
 
+/// A network with the legs numbered the other way round each node, so that
+/// stepping down from a leg is stepping up from it.
+fn mirrored(net: &[u8]) -> Vec<u8> {
+    let mut net = net.to_vec();
+    for frame in net[HEAD..].chunks_exact_mut(SEGMENT) {
+        for leg in [3, 6] {
+            frame[leg] = (8 - frame[leg]) % 8;
+        }
+        draw::seal(frame);
+    }
+    net
+}
+
+/// A network without the segments whose one end is where the first run arrives
+/// and is left by no open run, and the two runs in it.
+fn without_closed(net: &[u8], first: usize, second: usize) -> (Vec<u8>, [usize; 2]) {
+    let (head, frames) = net.split_at(HEAD);
+    let frames: Vec<&[u8]> = frames.chunks_exact(SEGMENT).collect();
+    let node = &frames[first / 2][[4, 1][first % 2]..][..2];
+    let stays = |s: usize| {
+        let (a, b, ways) = (&frames[s][1..3], &frames[s][4..6], frames[s][10]);
+        let closed = a != b && (a == node && ways == 2 || b == node && ways == 1);
+        [first / 2, second / 2].contains(&s) || !closed
+    };
+    let staying = |below: usize| (0..below).filter(|&s| stays(s)).count();
+    let mut net = head.to_vec();
+    net[4..6].copy_from_slice(&(staying(frames.len()) as u16).to_be_bytes());
+    draw::seal(&mut net);
+    for s in (0..frames.len()).filter(|&s| stays(s)) {
+        net.extend(frames[s]);
+    }
+    (
+        net,
+        [first, second].map(|run| 2 * staying(run / 2) + run % 2),
+    )
+}
+
 /// Changes the number at an index, if there is one.
 fn spoil<T: Copy + std::ops::Not<Output = T>>(numbers: &mut [T], at: usize) {
     if let Some(number) = numbers.get_mut(at) {
@@ -261,7 +302,16 @@ impl Calls for Faulty {
     }
 
     fn judge_movement(&self, net: &[u8], first: usize, second: usize, told: &mut Told) -> u32 {
-        Twin.judge_movement(net, self.narrow(Fault::NarrowRun, first), second, told)
+        let first = self.narrow(Fault::NarrowRun, first);
+        let number = Twin.judge_movement(net, first, second, told);
+        match (self.0, number) {
+            (Fault::ExitAbove, 0) => Twin.judge_movement(&mirrored(net), first, second, told),
+            (Fault::ClosedRunsUncounted, 0) => {
+                let (net, [first, second]) = without_closed(net, first, second);
+                Twin.judge_movement(&net, first, second, told)
+            }
+            _ => number,
+        }
     }
 
     fn search(

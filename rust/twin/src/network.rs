@@ -1,16 +1,60 @@
-//! Kept bytes under test 8, their corner index, and the two judgements.
+//! Kept bytes under test 8, the used legs of their nodes, the runs that leave
+//! by them, and the two judgements.
 
 use crate::edition::{MAX_NODES, MAX_RUNS};
 use crate::frame::{End, HEAD, HEAD_KIND, Head, SEGMENT, SEGMENT_KIND, Segment, checks};
 use crate::level::{self, Arrival};
+use std::ops::Deref;
 
-/// Marks a leg that no segment end uses.
-pub(crate) const UNUSED: u16 = u16::MAX;
+// Every run fits 16 bits.
+const _: () = assert!(MAX_RUNS <= 1 << 16);
 
-// Every run fits 16 bits and is another number.
-const _: () = assert!(MAX_RUNS <= UNUSED as usize);
+/// The used legs of each node as eight bits: bit `k` is set exactly when leg
+/// `k` is used.
+pub(crate) struct Legs([u8; MAX_NODES]);
 
-/// For each node and leg the run that leaves there, or [`UNUSED`].
+impl Legs {
+    pub fn new() -> Legs {
+        Legs([0; MAX_NODES])
+    }
+
+    /// Takes the leg of an end; whether it was free.
+    #[inline]
+    pub fn claim(&mut self, end: End) -> bool {
+        let legs = &mut self.0[end.node];
+        let bit = 1 << end.leg;
+        let free = *legs & bit == 0;
+        *legs |= bit;
+        free
+    }
+
+    /// The used legs of a node.
+    #[inline]
+    fn at(&self, node: usize) -> impl Iterator<Item = usize> + use<> {
+        falling(self.0[node])
+    }
+
+    /// The used legs of a node but the one of an arrival there, stepping down
+    /// from it and round: the right-hand exit first.
+    #[inline]
+    fn exits(&self, at: End) -> impl Iterator<Item = usize> + use<> {
+        // Turned so that the leg of arrival is bit 0 and the next below bit 7.
+        let turned = self.0[at.node].rotate_right(at.leg as u32);
+        falling(turned & !1).map(move |bit| (at.leg + bit) % 8)
+    }
+}
+
+/// The places of the bits that are set, the highest first.
+#[inline]
+fn falling(mut bits: u8) -> impl Iterator<Item = usize> {
+    std::iter::from_fn(move || {
+        let top = bits.checked_ilog2()?;
+        bits ^= 1 << top;
+        Some(top as usize)
+    })
+}
+
+/// For each used leg of each node the run that leaves there.
 ///
 /// The A end of segment `s` is left by run `2s`, its B end by run `2s + 1`,
 /// so the run arriving at a corner is the leaving one with its last bit
@@ -19,29 +63,76 @@ pub(crate) struct Corners([[u16; 8]; MAX_NODES]);
 
 impl Corners {
     pub fn new() -> Corners {
-        Corners([[UNUSED; 8]; MAX_NODES])
-    }
-
-    #[inline]
-    fn claim(&mut self, end: End, run: usize) -> bool {
-        let place = &mut self.0[end.node][end.leg];
-        let free = *place == UNUSED;
-        *place = run as u16; // every run fits
-        free
+        Corners([[0; 8]; MAX_NODES])
     }
 }
 
-/// Bytes that passed test 8, with their corner index.
+/// Bytes that passed test 8, with the used legs of their nodes.
 #[derive(Clone, Copy)]
 pub(crate) struct Network<'n, 'a> {
     nodes: usize,
     frames: &'n [[u8; SEGMENT]],
+    legs: &'a Legs,
+}
+
+/// A network with the runs that leave its nodes, which a search needs.
+#[derive(Clone, Copy)]
+pub(crate) struct Indexed<'n, 'a> {
+    network: Network<'n, 'a>,
     corners: &'a Corners,
 }
 
+impl<'n, 'a> Deref for Indexed<'n, 'a> {
+    type Target = Network<'n, 'a>;
+
+    #[inline]
+    fn deref(&self) -> &Network<'n, 'a> {
+        &self.network
+    }
+}
+
+impl<'n, 'a> Indexed<'n, 'a> {
+    /// Tests the bytes, gathering used legs and runs on the way.
+    pub fn test(
+        net: &'n [u8],
+        legs: &'a mut Legs,
+        corners: &'a mut Corners,
+    ) -> Option<Indexed<'n, 'a>> {
+        let network = Network::test_noting(net, legs, |end, run| {
+            corners.0[end.node][end.leg] = run as u16; // every run fits
+        })?;
+        Some(Indexed { network, corners })
+    }
+
+    /// The runs that leave a node.
+    #[inline]
+    pub fn leaving(&self, node: usize) -> impl Iterator<Item = usize> + use<'a> {
+        let corner = &self.corners.0[node];
+        self.legs.at(node).map(|leg| usize::from(corner[leg]))
+    }
+
+    /// The runs that leave a node by another leg than that of an arrival there,
+    /// the one by the right-hand exit first.
+    #[inline]
+    pub fn exits(&self, at: End) -> impl Iterator<Item = usize> + use<'a> {
+        let corner = &self.corners.0[at.node];
+        self.legs.exits(at).map(|leg| usize::from(corner[leg]))
+    }
+}
+
 impl<'n, 'a> Network<'n, 'a> {
-    /// Tests the bytes, filling a fresh corner index on the way.
-    pub fn test(net: &'n [u8], corners: &'a mut Corners) -> Option<Network<'n, 'a>> {
+    /// Tests the bytes, gathering used legs on the way.
+    pub fn test(net: &'n [u8], legs: &'a mut Legs) -> Option<Network<'n, 'a>> {
+        Network::test_noting(net, legs, |_, _| ())
+    }
+
+    /// The same; told of each end, with the run that leaves there.
+    #[inline]
+    fn test_noting(
+        net: &'n [u8],
+        legs: &'a mut Legs,
+        mut note: impl FnMut(End, usize),
+    ) -> Option<Network<'n, 'a>> {
         let (head, body) = net.split_first_chunk::<HEAD>()?;
         if head[0] != HEAD_KIND || !checks(head) {
             return None;
@@ -56,16 +147,18 @@ impl<'n, 'a> Network<'n, 'a> {
             let good = frame[0] == SEGMENT_KIND
                 && checks(frame)
                 && segment.in_order(head)
-                && corners.claim(segment.a(), 2 * s)
-                && corners.claim(segment.b(), 2 * s + 1);
+                && legs.claim(segment.a())
+                && legs.claim(segment.b());
             if !good {
                 return None;
             }
+            note(segment.a(), 2 * s);
+            note(segment.b(), 2 * s + 1);
         }
         Some(Network {
             nodes: head.nodes,
             frames,
-            corners,
+            legs,
         })
     }
 
@@ -129,26 +222,12 @@ impl<'n, 'a> Network<'n, 'a> {
         level::segment(self.segment(run)).0
     }
 
-    /// The runs leaving the eight legs of a node, [`UNUSED`] among them.
-    #[inline]
-    pub fn corner(&self, node: usize) -> &'a [u16; 8] {
-        &self.corners.0[node]
-    }
-
-    /// The run leaving by the right-hand exit of an arrival.
-    fn right_hand(&self, at: End) -> u16 {
-        let corner = self.corner(at.node);
-        (1..=8)
-            .map(|step| corner[(at.leg + 8 - step) % 8])
-            .find(|&run| run != UNUSED)
-            .unwrap_or(UNUSED)
-    }
-
     /// The level of the movement from run `p` onto run `q`, which leaves the
     /// node where `p` arrives by another leg.
     pub fn movement(&self, p: usize, q: usize) -> u8 {
         let arrival = self.arrival(p);
-        if usize::from(self.right_hand(self.arrives(p))) == q {
+        let right_hand = self.legs.exits(self.arrives(p)).next();
+        if right_hand == Some(self.leaves(q).leg) {
             arrival.right
         } else {
             arrival.other
@@ -158,15 +237,15 @@ impl<'n, 'a> Network<'n, 'a> {
 
 /// Whether the bytes are a network that [`read`](crate::read()) could keep.
 pub fn is_network(net: &[u8]) -> bool {
-    Network::test(net, &mut Corners::new()).is_some()
+    Network::test(net, &mut Legs::new()).is_some()
 }
 
 /// Level and governing measure of segment `s`.
 ///
 /// Refusals: 8, then 12.
 pub fn judge_segment(net: &[u8], s: usize) -> Result<(u8, u8), u8> {
-    let mut corners = Corners::new();
-    let town = Network::test(net, &mut corners).ok_or(8)?;
+    let mut legs = Legs::new();
+    let town = Network::test(net, &mut legs).ok_or(8)?;
     if s >= town.segments() {
         return Err(12);
     }
@@ -177,8 +256,8 @@ pub fn judge_segment(net: &[u8], s: usize) -> Result<(u8, u8), u8> {
 ///
 /// Refusals: 8, then 12 for either run, then 13.
 pub fn judge_movement(net: &[u8], p: usize, q: usize) -> Result<u8, u8> {
-    let mut corners = Corners::new();
-    let town = Network::test(net, &mut corners).ok_or(8)?;
+    let mut legs = Legs::new();
+    let town = Network::test(net, &mut legs).ok_or(8)?;
     let rideable = |run: usize| run < town.runs() && town.open(run);
     if !rideable(p) || !rideable(q) {
         return Err(12);

@@ -3,7 +3,7 @@
 //! Routes come in order of length, so that the first to a node tells its least.
 
 use crate::edition::MAX_NODES;
-use crate::network::{Corners, Network};
+use crate::network::{Corners, Indexed, Legs};
 use crate::search::{FAR, Search};
 use std::ops::ControlFlow;
 
@@ -24,8 +24,8 @@ pub fn reach_map(
     previous: &mut [u32],
     list: &mut [u32],
 ) -> Result<usize, u8> {
-    let mut corners = Corners::new();
-    let town = Network::test(net, &mut corners).ok_or(8)?;
+    let (mut legs, mut corners) = (Legs::new(), Corners::new());
+    let town = Indexed::test(net, &mut legs, &mut corners).ok_or(8)?;
     let (best, previous) = admit(&town, from, tolerance, best, previous)?;
     let list = list.get_mut(..2 * town.nodes()).ok_or(15)?;
 
@@ -74,8 +74,8 @@ pub fn nearest(
     best: &mut [u32],
     previous: &mut [u32],
 ) -> Result<Option<(usize, u32)>, u8> {
-    let mut corners = Corners::new();
-    let town = Network::test(net, &mut corners).ok_or(8)?;
+    let (mut legs, mut corners) = (Legs::new(), Corners::new());
+    let town = Indexed::test(net, &mut legs, &mut corners).ok_or(8)?;
     let (best, previous) = admit(&town, from, tolerance, best, previous)?;
     let marks = marks.get(..town.nodes()).ok_or(15)?;
 
@@ -98,7 +98,7 @@ pub fn nearest(
 
 /// The lent slices, cut to what a search uses; or 9, 10 or 11.
 fn admit<'l>(
-    town: &Network<'_, '_>,
+    town: &Indexed<'_, '_>,
     from: usize,
     tolerance: u8,
     best: &'l mut [u32],

@@ -1,7 +1,8 @@
 //! Read: a network text into kept bytes; and the line that it refuses.
 
-use crate::edition::{MAX_NODES, MAX_SEGMENTS};
-use crate::frame::{End, HEAD, HEAD_KIND, Head, SEGMENT, SEGMENT_KIND, Segment, checks};
+use crate::edition::MAX_SEGMENTS;
+use crate::frame::{HEAD, HEAD_KIND, Head, SEGMENT, SEGMENT_KIND, Segment, checks};
+use crate::network::Legs;
 use std::ops::Range;
 
 const NEWLINE: u8 = 0x0A;
@@ -86,14 +87,7 @@ fn segments<'t>(
     head: Head,
     places: &mut [[u8; SEGMENT]],
 ) -> Result<(), Fault<'t>> {
-    let mut taken = [0u8; MAX_NODES];
-    let mut claim = |end: End| {
-        let legs = &mut taken[end.node];
-        let bit = 1 << end.leg;
-        let free = *legs & bit == 0;
-        *legs |= bit;
-        free
-    };
+    let mut legs = Legs::new();
     let mut places = places.iter_mut();
     let mut line = 2;
     while !rest.is_empty() {
@@ -104,7 +98,7 @@ fn segments<'t>(
         if !fields.in_order(head) {
             return Err(fault(4));
         }
-        if !(claim(fields.a()) && claim(fields.b())) {
+        if !(legs.claim(fields.a()) && legs.claim(fields.b())) {
             return Err(fault(6));
         }
         *place = segment;

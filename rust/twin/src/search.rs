@@ -6,7 +6,7 @@
 use crate::edition::{MAX_FEET, MAX_NODES, MAX_RUNS};
 use crate::frame::End;
 use crate::level::Arrival;
-use crate::network::{Corners, Network, UNUSED};
+use crate::network::{Corners, Indexed, Legs};
 use std::cmp::Reverse;
 use std::collections::BinaryHeap;
 use std::ops::ControlFlow;
@@ -56,8 +56,8 @@ pub fn route(
     buffer: &mut [u16],
     place: usize,
 ) -> Result<Option<Found>, u8> {
-    let mut corners = Corners::new();
-    let town = Network::test(net, &mut corners).ok_or(8)?;
+    let (mut legs, mut corners) = (Legs::new(), Corners::new());
+    let town = Indexed::test(net, &mut legs, &mut corners).ok_or(8)?;
     if from >= town.nodes() || to >= town.nodes() {
         return Err(9);
     }
@@ -84,8 +84,8 @@ pub fn least_stress(
     buffer: &mut [u16],
     place: usize,
 ) -> Result<Option<(Found, u8)>, u8> {
-    let mut corners = Corners::new();
-    let town = Network::test(net, &mut corners).ok_or(8)?;
+    let (mut legs, mut corners) = (Legs::new(), Corners::new());
+    let town = Indexed::test(net, &mut legs, &mut corners).ok_or(8)?;
     if from >= town.nodes() || to >= town.nodes() {
         return Err(9);
     }
@@ -111,7 +111,7 @@ struct Lent<'l> {
 
 impl<'l> Lent<'l> {
     fn take(
-        town: &Network<'_, '_>,
+        town: &Indexed<'_, '_>,
         best: &'l mut [u32],
         previous: &'l mut [u32],
         buffer: &'l mut [u16],
@@ -130,21 +130,13 @@ impl<'l> Lent<'l> {
 /// level: the right-hand exit first.
 #[inline]
 fn movements<'a>(
-    town: &Network<'_, 'a>,
+    town: &Indexed<'_, 'a>,
     at: End,
     arrival: Arrival,
 ) -> impl Iterator<Item = (usize, u8)> + use<'a> {
-    let corner = town.corner(at.node);
     let mut level = arrival.right;
-    (1..8).filter_map(move |step| {
-        let next = corner[(at.leg + 8 - step) % 8];
-        (next != UNUSED).then(|| {
-            (
-                usize::from(next),
-                std::mem::replace(&mut level, arrival.other),
-            )
-        })
-    })
+    town.exits(at)
+        .map(move |next| (next, std::mem::replace(&mut level, arrival.other)))
 }
 
 /// Nodes with nothing left to find.
@@ -176,7 +168,7 @@ impl Served {
 /// Dijkstra's search with one label for each run: the best length of a route
 /// from `from` that ends in it.
 pub(crate) struct Search<'s> {
-    town: &'s Network<'s, 's>,
+    town: &'s Indexed<'s, 's>,
     tolerance: u8,
     /// Routes of more feet are of no use.
     greatest: u32,
@@ -189,7 +181,7 @@ pub(crate) struct Search<'s> {
 impl<'s> Search<'s> {
     /// A search that uses a number of `best` and of `previous` for each run.
     pub fn over(
-        town: &'s Network<'s, 's>,
+        town: &'s Indexed<'s, 's>,
         tolerance: u8,
         greatest: u32,
         best: &'s mut [u32],
@@ -242,8 +234,8 @@ impl<'s> Search<'s> {
         mut arrive: impl FnMut(usize, usize, u32) -> ControlFlow<T>,
     ) -> Option<T> {
         self.best.fill(FAR);
-        for &run in self.town.corner(from).iter().filter(|&&run| run != UNUSED) {
-            self.offer(usize::from(run), START, 0);
+        for run in self.town.leaving(from) {
+            self.offer(run, START, 0);
         }
         while let Some((length, run)) = self.queue.pop() {
             let at = self.town.arrives(run);
@@ -266,7 +258,7 @@ impl<'s> Search<'s> {
 }
 
 fn shortest(
-    town: &Network<'_, '_>,
+    town: &Indexed<'_, '_>,
     from: usize,
     to: usize,
     tolerance: u8,
@@ -307,7 +299,7 @@ impl Queue {
 /// Writes the route that ends in `last`; a run comes once in it at most, so
 /// the tail has room.
 fn write(
-    town: &Network<'_, '_>,
+    town: &Indexed<'_, '_>,
     last: usize,
     length: u32,
     previous: &[u32],
@@ -338,7 +330,7 @@ fn write(
 
 /// Runs reached so far, by the level of the way to them.
 struct Levels<'s> {
-    town: &'s Network<'s, 's>,
+    town: &'s Indexed<'s, 's>,
     /// The least level known for each run.
     least: &'s mut [u32],
     /// Runs that wait to be gone on from, a stack for each level.
@@ -368,7 +360,7 @@ impl Levels<'_> {
 /// The stacks of waiting runs are emptied from the lowest level, so a run is
 /// first taken at its least. `least` is scratch.
 fn least_tolerance(
-    town: &Network<'_, '_>,
+    town: &Indexed<'_, '_>,
     from: usize,
     to: usize,
     least: &mut [u32],
@@ -382,8 +374,8 @@ fn least_tolerance(
         waiting,
     };
     let mut served = Served::new();
-    for &run in town.corner(from).iter().filter(|&&run| run != UNUSED) {
-        levels.reach(usize::from(run), 1);
+    for run in town.leaving(from) {
+        levels.reach(run, 1);
     }
     for tolerance in 1..=4 {
         while let Some(run) = levels.waiting[usize::from(tolerance) - 1].pop() {
