@@ -11,13 +11,20 @@ use lib.ListN.{length, get_or, set, replicate, length-set, length-replicate, get
 use lib.Seq.{get_or-set_same, get_or-set_other}
 use borrow.Author.Tests.{eqb-true, eqb-false, ne_eqb}
 use Rattle.frames.specs.Ranges.{ends_ok}
+use Rattle.frames.specs.Steps.Sizes.{county_size}
 use Rattle.frames.proofs.FrameLaws.{EndLimits, end_limits}
 use Rattle.network.specs.Legs.{corner_a, corner_b, is_in, taking}
 use Rattle.network.specs.Steps.Taken.{ends_of}
-use Rattle.network.specs.Steps.Corners.{leaves, Indexed, with_runs}
+use Rattle.network.specs.Steps.Corners.{leaves, Indexed, RunsRoom, with_runs}
 
 pub corners_few : (n : ℕ) (f : List ℕ) → ends_ok n f ≡ true → (corner_a f < n * 8) × (corner_b f < n * 8)
 corners_few n f e = let l : EndLimits n f = end_limits n f e in (omega arith, omega arith)
+
+-- the runs of a segment have their entries in an index with eight legs for each of n nodes
+pub runs_room : (n : ℕ) (f : List ℕ) {s : ℕ} {index : List ℕ} → ends_ok n f ≡ true → n * 8 ≤ length index → s < county_size → RunsRoom (ends_of f) s index
+runs_room n f e m h =
+    let o = corners_few n f e in
+    record { counted = h; a_fits = omega (arith, o.0, m); b_fits = omega (arith, o.1, m) }
 
 pub free_is_new : (taken : List ℕ) (e : ℕ) → eqb (leaves taken e) 0 ≡ not (is_in e taken)
 unfolding leaves is_in

@@ -21,13 +21,12 @@ use Rattle.frames.specs.Faults.{framed}
 use Rattle.frames.specs.Steps.Sizes.{Limited}
 use Rattle.frames.proofs.FrameLaws.{framed_has, limited}
 use Rattle.frames.proofs.FaultLaws.{head_and}
-use Rattle.network.specs.declared.legs.Ends.{Ends}
 use Rattle.network.specs.Legs.{taking}
 use Rattle.network.specs.Faults.{segment_fault}
 use Rattle.network.specs.Network.{head_of, kept_bytes, frames_ok, is_network}
 use Rattle.network.specs.Steps.Taken.{Gathered, ends_of, claimed}
-use Rattle.network.specs.Steps.Corners.{Indexed, RunsRoom, with_runs, corners_from}
-use Rattle.network.specs.Steps.Checks.{legs_fault, FramesIndexed, FramesChecked, Checked}
+use Rattle.network.specs.Steps.Corners.{Indexed, with_runs, corners_from}
+use Rattle.network.specs.Steps.Checks.{legs_fault, SegmentChecked, FramesIndexed, FramesChecked, Checked}
 use Rattle.network.proofs.TakenLaws.{legs_fault_lem, claimed_gathered}
 use Rattle.network.proofs.CornerLaws.{corners_few, entered_indexed}
 use Rattle.network.proofs.FaultLaws.{faultless}
@@ -87,54 +86,43 @@ module _ {indexed : Bool} {net : List ℕ} {head : Head} {s : ℕ} {legs d : Lis
   tested =
       ap (λ (x : ℕ). eqb x 0) (ap (legs_fault head.edition head.nodes true legs) part_is ∙ legs_fault_lem w.gathered head.edition true frame)
 
-  pub fails : s < head.segments → eqb (legs_fault head.edition head.nodes true legs (part net size s)) 0 ≡ false → {legs' d' : List ℕ}
-      → FramesChecked indexed head (drop 7 net) legs' d' false
-  unfolding frames_ok
-  fails h x =
-      let z : head.segments - s ≡ suc (head.segments - (s + 1)) = omega arith in
-      record { answer = sym (rw (z, frames_ok, sym tested ∙ x)) ∙ w.tests; legs = λ t. true_is_false refl t; index = λ t. true_is_false refl t }
-
-  module _ (x : eqb (legs_fault head.edition head.nodes true legs (part net size s)) 0 ≡ true) {ends : Ends} (k : ends ≡ ends_of (part net size s)) where
-    passes : eqb (segment_fault head.edition head.nodes true w.taken frame) 0 ≡ true
-    passes = sym tested ∙ x
-
-    follow : ends_ok head.nodes frame ≡ true
-    follow = (faultless head.edition head.nodes true w.taken frame (eqb-true _ _ passes)).follows.ends
-
-    ends_are : ends ≡ ends_of frame
-    ends_are = k ∙ ap ends_of part_is
-
-    -- the runs of the segment have their entries in an index that is to be filled
-    pub runs_room : s < head.segments → indexed ≡ true → RunsRoom ends s d
-    runs_room h t =
-        let o = corners_few head.nodes frame follow in
-        let m = (w.index t).room in
-        subst (λ (j : Ends). RunsRoom j s d) (sym ends_are)
-        (record { counted = omega (arith, w.limited.few_segments); a_fits = omega (arith, o.0); b_fits = omega (arith, o.1) })
-
-    pub goes_on : {legs' d' : List ℕ} → s < head.segments → legs' ≡ claimed legs ends → (indexed ≡ true → d' ≡ with_runs d s ends)
-        → Going indexed net head (s + 1) legs' d'
-    unfolding frames_ok corners_from
-    goes_on {legs'} {d'} h y i =
+  module _ (h : s < head.segments) {legs' d' : List ℕ} {r : Bool} (k : SegmentChecked indexed (part net size s) head s legs legs' d d' r) where
+    pub fails : r ≡ false → FramesChecked indexed head (drop 7 net) legs' d' false
+    unfolding frames_ok
+    fails x =
         let z : head.segments - s ≡ suc (head.segments - (s + 1)) = omega arith in
-        let o = corners_few head.nodes frame follow in
-        let b : drop (frame_bytes head.edition) left ≡ drop (7 + frame_bytes head.edition * (s + 1)) net =
-        drop-drop (frame_bytes head.edition) (7 + frame_bytes head.edition * s) net
-        ∙ ap (λ (j : ℕ). drop j net) (omega (arith, times_next (frame_bytes head.edition) s)) in
-        record {
-          taken = taking w.taken frame;
-          runs = omega (arith, w.runs);
-          limited = w.limited;
-          long = w.long;
-          gathered =
-              subst (λ (j : List ℕ). Gathered head.nodes (taking w.taken frame) j) (sym (y ∙ ap (claimed legs) ends_are))
-              (claimed_gathered w.gathered frame follow);
-          index = λ u.
-              subst (λ (j : List ℕ). Indexed head.nodes (taking w.taken frame) j) (sym (i u ∙ ap (with_runs d s) ends_are))
-              (entered_indexed (w.index u) s frame w.runs o.0 o.1);
-          tests = sym (rw (z, frames_ok, passes, b)) ∙ w.tests;
-          corners = sym (rw (z, corners_from, b)) ∙ w.corners;
-        }
+        let y = sym tested ∙ sym k.answer ∙ x in
+        record { answer = sym (rw (z, frames_ok, y)) ∙ w.tests; legs = λ t. true_is_false refl t; index = λ t. true_is_false refl t }
+
+    module _ (x : r ≡ true) where
+      passes : eqb (segment_fault head.edition head.nodes true w.taken frame) 0 ≡ true
+      passes = sym tested ∙ sym k.answer ∙ x
+
+      follow : ends_ok head.nodes frame ≡ true
+      follow = (faultless head.edition head.nodes true w.taken frame (eqb-true _ _ passes)).follows.ends
+
+      pub goes_on : Going indexed net head (s + 1) legs' d'
+      unfolding frames_ok corners_from
+      goes_on =
+          let z : head.segments - s ≡ suc (head.segments - (s + 1)) = omega arith in
+          let o = corners_few head.nodes frame follow in
+          let b : drop (frame_bytes head.edition) left ≡ drop (7 + frame_bytes head.edition * (s + 1)) net =
+          drop-drop (frame_bytes head.edition) (7 + frame_bytes head.edition * s) net
+          ∙ ap (λ (j : ℕ). drop j net) (omega (arith, times_next (frame_bytes head.edition) s)) in
+          record {
+            taken = taking w.taken frame;
+            runs = omega (arith, w.runs);
+            limited = w.limited;
+            long = w.long;
+            gathered =
+                subst (λ (j : List ℕ). Gathered head.nodes (taking w.taken frame) j)
+                (sym (k.legs x ∙ ap (λ (i : List ℕ). claimed legs (ends_of i)) part_is)) (claimed_gathered w.gathered frame follow);
+            index = λ u.
+                subst (λ (j : List ℕ). Indexed head.nodes (taking w.taken frame) j)
+                (sym (k.runs x u ∙ ap (λ (i : List ℕ). with_runs d s (ends_of i)) part_is)) (entered_indexed (w.index u) s frame w.runs o.0 o.1);
+            tests = sym (rw (z, frames_ok, passes, b)) ∙ w.tests;
+            corners = sym (rw (z, corners_from, b)) ∙ w.corners;
+          }
 
 module _ {indexed : Bool} {net : List ℕ} {head : Head} {s : ℕ} {legs d : List ℕ} (w : Going indexed net head s legs d) where
   pub ends : head.segments ≤ s → FramesChecked indexed head (drop 7 net) legs d true

@@ -1,5 +1,5 @@
 // Test 8: bytes that Read could keep.
-ghost use Rattle.std.specs.Prelude.{◌+◌, ◌*◌, ◌≤◌, ◌≡◌, [], true, length, drop};
+ghost use Rattle.std.specs.Prelude.{◌+◌, ◌*◌, ◌≤◌, ◌<◌, ◌≡◌, [], true, length, drop};
 ghost use Rattle.frames.specs.Edition.{frame_bytes};
 ghost use Rattle.frames.specs.Frame.{head_bytes};
 ghost use Rattle.frames.specs.Steps.Sizes.{county_size, Limited};
@@ -9,7 +9,7 @@ ghost use Rattle.network.specs.Steps.Taken.{Gathered};
 ghost use Rattle.network.specs.Steps.Checks.{HeadFits, FewNodes, Awaits, AwaitsRuns, FramesIndexed, FramesChecked, Checked, SegmentChecked, is_county};
 
 use crate::corners::enter_runs;
-use crate::legs::{Ends, claim_legs, ends_of, no_legs};
+use crate::legs::{claim_legs, ends_of, no_legs};
 use frames::decoded::head_of;
 use frames::edition::frame_bytes;
 use frames::frame::{Frame, is_framed};
@@ -26,32 +26,40 @@ pub fn kept_bytes(head: Head) -> usize
     fields::HEAD_BYTES + frame_bytes(head.edition) * head.segments
 }
 
-// The ends of a segment whose frame follows the rules and whose legs were free; then they are taken. It is always inlined: a call for each segment would cost
-// the pass an eighth.
+// One segment's frame, judged where it stands: it follows the rules, and its legs were free; then they are taken, and its runs entered in an index that is
+// to be filled. What the street has is tested last, by a call: nothing of the ends has to be kept across it. This function is always inlined: one call more
+// for each segment would cost the pass an eighth.
 #[inline(always)]
-#[tactic(auto, using(crate::proofs::FaultLaws::line_and, frames::proofs::FrameLaws::end_limits, frames::proofs::EditionLaws::frame_least))]
-fn take_segment(f: &[u8], head: Head, legs: &mut [u8]) -> Option<Ends>
-    requires { (length f.now ≡ frame_bytes head.edition) × HeadFits head legs.old }
-    ensures { SegmentChecked f.now head legs.old legs.new result }
+#[tactic(auto, using(crate::proofs::FaultLaws::line_and, crate::proofs::CornerLaws::runs_room, frames::proofs::FrameLaws::end_limits, frames::proofs::EditionLaws::frame_least))]
+fn take_segment<const INDEXED: bool>(
+    f: &[u8],
+    head: Head,
+    s: usize,
+    legs: &mut [u8],
+    index: &mut [u16],
+) -> bool
+    requires { (length f.now ≡ frame_bytes head.edition) × HeadFits head legs.old × (s < head.segments)
+        × (INDEXED ≡ true → head.nodes * 8 ≤ length index.old) }
+    ensures { SegmentChecked INDEXED f.now head s legs.old legs.new index.old index.new result }
 {
     if !is_framed(f, fields::SEGMENT_KIND) {
-        return None;
+        return false;
+    }
+    if !ends_ok(f, head.nodes) {
+        return false;
+    }
+    let ends = ends_of(f);
+    if !claim_legs(ends, legs) {
+        return false;
+    }
+    if INDEXED {
+        enter_runs(ends, s, index);
     }
     let frame = Frame {
         bytes: f,
         edition: head.edition,
     };
-    if !frame.street_ok() {
-        return None;
-    }
-    if !ends_ok(f, head.nodes) {
-        return None;
-    }
-    let ends = ends_of(f);
-    if !claim_legs(ends, legs) {
-        return None;
-    }
-    Some(ends)
+    frame.street_ok()
 }
 
 // The one pass over the segments: the frames after the head follow the rules, and no leg is taken twice; then the bytes have all used legs, and an index that
@@ -69,12 +77,8 @@ fn frames_ok<const INDEXED: bool>(
     let size = frame_bytes(head.edition);
     for s in 0..head.segments {
         let at = fields::HEAD_BYTES + size * s;
-        let f = &net[at..at + size];
-        let Some(ends) = take_segment(f, head, legs) else {
+        if !take_segment::<INDEXED>(&net[at..at + size], head, s, legs, index) {
             return false;
-        };
-        if INDEXED {
-            enter_runs(ends, s, index);
         }
     }
     true

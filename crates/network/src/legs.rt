@@ -14,7 +14,7 @@ pub fn no_legs<const NODES: usize>() -> [u8; NODES]
     [0; NODES]
 }
 
-// The bit of each leg alone. It is looked up: to shift by a leg takes a segment's ends longer than to read it.
+// The bit of each leg alone. It is looked up: that takes less time than shifting a 1 by the leg.
 const BIT_OF: [u8; 8] = [1, 2, 4, 8, 16, 32, 64, 128];
 
 fn bit_of(leg: usize) -> u8

@@ -1,16 +1,15 @@
 -- What the functions that judge segments' frames promise one another, in test 8 and in Read: they go by the bytes of used legs, where the definitions
 -- go by the legs taken.
 -- Assumes nothing.
-use Rattle.std.specs.Prelude.{ℕ, ◌≤◌, Bool, true, false, ◌&&◌, not, ◌≡◌, List, [], Option, MatchOption, eqb, leb, length}
+use Rattle.std.specs.Prelude.{ℕ, ◌≤◌, Bool, true, ◌&&◌, not, ◌≡◌, List, [], eqb, leb, length}
 use Rattle.frames.specs.declared.Head.{Head}
 use Rattle.frames.specs.Steps.Sizes.{is_town, Limited}
 use Rattle.frames.specs.Frame.{head_bytes}
 use Rattle.frames.specs.Ranges.{head_ok}
-use Rattle.network.specs.declared.legs.Ends.{Ends}
 use Rattle.network.specs.Faults.{line_fault}
 use Rattle.network.specs.Network.{head_of, nodes_of, segments_of, frames_ok, is_network}
 use Rattle.network.specs.Steps.Taken.{Gathered, ends_of, free_in, claimed}
-use Rattle.network.specs.Steps.Corners.{Indexed, corners_from, corners_of}
+use Rattle.network.specs.Steps.Corners.{Indexed, with_runs, corners_from, corners_of}
 
 -- The fault of a segment's line by the bytes of used legs, in place of the legs taken.
 abbrev pub legs_fault : ℕ → ℕ → Bool → List ℕ → List ℕ → ℕ
@@ -21,11 +20,12 @@ pub record HeadFits (head : Head) (legs : List ℕ) : Type 0 where
   pub limited : Limited head
   pub room : head.nodes ≤ length legs
 
--- The frame of a segment judged where it stands in kept bytes, after a head: where it has no fault its ends are told, and their legs claimed.
-abbrev pub SegmentChecked : List ℕ → Head → List ℕ → List ℕ → Option Ends → Type 0
-SegmentChecked f head before after r =
-    MatchOption r (eqb (legs_fault head.edition head.nodes true before f) 0 ≡ false)
-    (λ ends. (eqb (legs_fault head.edition head.nodes true before f) 0 ≡ true) × (ends ≡ ends_of f) × (after ≡ claimed before ends))
+-- The frame of segment s judged where it stands in kept bytes, after a head: its answer, and where it passes, the bytes with its legs, and the index with
+-- its runs if it is to be filled.
+pub record SegmentChecked (indexed : Bool) (f : List ℕ) (head : Head) (s : ℕ) (old new index index' : List ℕ) (r : Bool) : Type 0 where
+  pub answer : r ≡ eqb (legs_fault head.edition head.nodes true old f) 0
+  pub legs : r ≡ true → new ≡ claimed old (ends_of f)
+  pub runs : r ≡ true → indexed ≡ true → index' ≡ with_runs index s (ends_of f)
 
 -- An index that is to be filled has these corners.
 abbrev pub FramesIndexed : Bool → ℕ → List ℕ → List ℕ → Type 0
