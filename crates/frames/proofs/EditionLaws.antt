@@ -5,8 +5,7 @@ use mathlib.Core.Bool.{true, false}
 use mathlib.Core.Path.{◌≡◌, refl}
 use native.Mathlib.Omega.{arith}
 use native.Mathlib.Nat.{mul-le-mul}
-use lib.Dec.{leb}
-use borrow.Author.Tests.{leb-true, leb-false, le-leb, lt-leb}
+use borrow.Author.Tests.{leb-true, lt-leb}
 use Rattle.frames.specs.Edition.{extra, segment_bytes, frame_bytes, most_nodes, most_segments, most_feet, crosses_nothing, most_kept}
 use Rattle.frames.specs.Steps.Sizes.{county_size, county_feet, most_bytes}
 use Rattle.frames.specs.Ranges.{within}
@@ -26,11 +25,6 @@ frame_least e = omega (arith, frame_extra e)
 pub crosses_or_not : (e control : ℕ) → crosses_nothing e control ≡ true → within 2 4 control ≡ false
 unfolding crosses_nothing
 crosses_or_not e control h = let few : control < 2 = omega (arith, leb-true control 1 h) in rw (lt-leb 2 control few)
-
--- a control that crosses something is one of the others from 2 on
-pub crosses : (e control : ℕ) → crosses_nothing e control ≡ false → within 2 4 control ≡ leb control 4
-unfolding crosses_nothing
-crosses e control h = let more : 1 < control = leb-false control 1 h in rw (le-leb 2 control (omega (arith, more))) refl
 
 pub nodes_few : (e : ℕ) → most_nodes e ≤ county_size
 unfolding most_nodes

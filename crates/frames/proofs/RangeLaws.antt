@@ -4,7 +4,7 @@ use Rattle.std.specs.declared.ops.RangeInclusive.{RangeInclusive}
 use Rattle.std.specs.Range.{range_inclusive_start, range_inclusive_end, range_inclusive_exhausted, range_inclusive_contains}
 use Rattle.std.proofs.Common.{rules, Some, nat_cmp}
 use Rattle.std.proofs.lemmas.Bool.Decides.{nat_tests}
-use Prim.Native.Nat.{ℕ, ◌+◌, ◌≤◌}
+use Prim.Native.Nat.{ℕ, ◌≤◌}
 use mathlib.Core.Bool.{Bool, true, false, ◌&&◌, ◌||◌}
 use mathlib.Core.Path.{◌≡◌}
 use native.Mathlib.Omega.{arith}
@@ -23,10 +23,6 @@ within_high lo hi x e = leb-true x hi (and_true (leb lo x) (leb x hi) e).1
 pub contains_within : (s : RangeInclusive ℕ) (lo hi x : ℕ) → range_inclusive_start s ≡ lo → range_inclusive_end s ≡ hi → range_inclusive_exhausted s ≡ false
     → range_inclusive_contains (λ (a b : ℕ). Some (nat_cmp a b)) s x ≡ within lo hi x
 contains_within s lo hi x a b c = rw (a, b, c) (search rules)
-
--- a sum is 0 where both its terms are
-pub none_of_two : (x y : ℕ) → eqb (x + y) 0 ≡ (eqb x 0 && eqb y 0)
-none_of_two x y = grind (arith, nat_tests)
 
 -- a form other than 3 leaves the first alternative, in which one that is not 0 is 1 or 2
 pub other_form : (form : ℕ) (a b c d none w x y z : Bool) → (form ≡ 3 → ⊥)

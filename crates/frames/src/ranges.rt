@@ -9,7 +9,7 @@ use crate::edition::{
     most_segments,
 };
 use crate::fields;
-use crate::frame::{Frame, byte_at, word_at};
+use crate::frame::{Frame, word_at};
 
 // Edition, nodes and segments of a head.
 #[tactic(auto, unfolding(crate::specs::Ranges::head_ok))]
@@ -61,7 +61,7 @@ impl Frame<'_> {
     }
 
     // What the approach at place i of the frame crosses.
-    #[tactic(auto, using(crate::proofs::EditionLaws::crosses_or_not, crate::proofs::EditionLaws::crosses, crate::proofs::RangeLaws::contains_within), unfolding(crate::specs::Ranges::crossing_ok))]
+    #[tactic(auto, using(crate::proofs::EditionLaws::crosses_or_not, crate::proofs::RangeLaws::contains_within), unfolding(crate::specs::Ranges::crossing_ok))]
     fn crossing_ok(&self, i: usize) -> bool
         requires { i + 6 < length self.now.bytes.now }
         ensures { result ≡ crossing_ok self.now.edition self.now.bytes.now i }
@@ -73,11 +73,11 @@ impl Frame<'_> {
         if crosses_nothing(self.edition, control) {
             return (lanes == 0) & (speed == 0);
         }
-        (control <= 4) & (1..=12).contains(&lanes) & (5..=85).contains(&speed)
+        (2..=4).contains(&control) & (1..=12).contains(&lanes) & (5..=85).contains(&speed)
     }
 
-    // The turn lane of the approach at place i of the frame. Most approaches have none: that length and speed are both 0 then is one test, of their sum.
-    #[tactic(auto, using(crate::proofs::RangeLaws::none_of_two), unfolding(crate::specs::Ranges::turn_lane_ok))]
+    // The turn lane of the approach at place i of the frame. Most approaches have none.
+    #[tactic(auto, unfolding(crate::specs::Ranges::turn_lane_ok))]
     fn turn_lane_ok(&self, i: usize) -> bool
         requires { i + 6 < length self.now.bytes.now }
         ensures { result ≡ turn_lane_ok self.now.bytes.now i }
@@ -85,9 +85,9 @@ impl Frame<'_> {
         let f = self.bytes;
         let kind = f[i + fields::TURN_KIND];
         let feet = word_at(f, i + fields::TURN_FEET);
-        let speed = byte_at(f, i + fields::TURNING_SPEED);
+        let speed = f[i + fields::TURNING_SPEED];
         if kind == 0 {
-            return feet + speed == 0;
+            return (feet == 0) & (speed == 0);
         }
         (kind <= 3) & (1..=MOST_TURN_FEET).contains(&feet) & (5..=85).contains(&speed)
     }

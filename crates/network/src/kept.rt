@@ -28,7 +28,7 @@ pub fn kept_bytes(head: Head) -> usize
 
 // One segment's frame, judged where it stands: it follows the rules, and its legs were free; then they are taken, and its runs entered in an index that is
 // to be filled. What the street has is tested last, by a call: nothing of the ends has to be kept across it. This function is always inlined: one call more
-// for each segment would cost the pass an eighth.
+// for each segment would cost the pass a seventh.
 #[inline(always)]
 #[tactic(auto, using(crate::proofs::FaultLaws::line_and, crate::proofs::CornerLaws::runs_room, frames::proofs::FrameLaws::end_limits, frames::proofs::EditionLaws::frame_least))]
 fn take_segment<const INDEXED: bool>(
