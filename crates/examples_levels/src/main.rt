@@ -1,15 +1,14 @@
-// Prints the plain level examples of document 01, then its tables at both ends of every band, and form 1 round the limits of Note 2 of document 02. The
-// stored output has the papers' numbers.
+// Prints the plain level examples of document 01, then its tables at both ends of every band, form 1 round the limits of Note 2 of document 02, and its Note
+// 5's rules round theirs (newer.rt). The stored output has the papers' numbers.
 #![tactic(auto)]
+
+mod newer;
 
 use frames::{Crossing, Form, TurnLane};
 use std::io;
-use stress::crossing::crossing_level;
-use stress::segment::grade_of;
+use stress::crossing::older_crossing;
+use stress::segment::older_grade;
 use stress::turn_lane::turn_lane_level;
-
-// Every example is of edition 01.
-const EDITION: u8 = 1;
 
 // What is crossed under a control of 2 or more.
 fn crossing(control: u8, lanes: u8, speed: u8) -> Crossing {
@@ -24,7 +23,7 @@ fn crossing(control: u8, lanes: u8, speed: u8) -> Crossing {
 fn crossing_levels(rt: &impl Print, control: u8, speed: u8) -> io::Result<()> {
     print!(rt; "control {control} {speed} mph:")?;
     for lanes in [1, 2, 3, 4, 5, 6, 12] {
-        let level = crossing_level(EDITION, crossing(control, lanes, speed));
+        let level = older_crossing(crossing(control, lanes, speed));
         print!(rt; " {level}")?;
     }
     println!(rt)
@@ -69,7 +68,7 @@ fn parking_marks(rt: &impl Print, reach: u8, speed: u8) -> io::Result<()> {
             reach,
             marks,
         };
-        let grade = grade_of(EDITION, form);
+        let grade = older_grade(form);
         print!(rt; "{before} {} {}", grade.level, grade.measure)?;
     }
     println!(rt)
@@ -87,7 +86,7 @@ fn parking_table(rt: &impl Print) -> io::Result<()> {
 
 // The example's name, then level and measure.
 fn segment(rt: &impl Print, name: &str, form: Form) -> io::Result<()> {
-    let grade = grade_of(EDITION, form);
+    let grade = older_grade(form);
     println!(rt; "{name}: {} {}", grade.level, grade.measure)
 }
 
@@ -146,5 +145,6 @@ fn main(rt: HostRuntime) -> io::Result<()> {
     bike_lanes_and_paths(&rt)?;
     crossing_tables(&rt)?;
     turn_lanes(&rt)?;
-    parking_table(&rt)
+    parking_table(&rt)?;
+    newer::examples(&rt)
 }

@@ -1,11 +1,11 @@
 -- What every edition keeps to, so that the proofs need no edition's own numbers: the bounds of specs/Edition.antt.
 -- Assumes nothing.
-use Prim.Native.Nat.{ℕ, ◌+◌, ◌*◌, ◌≤◌, ◌<◌}
-use mathlib.Core.Bool.{true, false}
+use Prim.Native.Nat.{ℕ, ◌+◌, ◌*◌, ◌≤◌}
+use mathlib.Core.Bool.{Bool, true, false}
 use mathlib.Core.Path.{◌≡◌, refl}
 use native.Mathlib.Omega.{arith}
 use native.Mathlib.Nat.{mul-le-mul}
-use borrow.Author.Tests.{leb-true, lt-leb}
+use Rattle.std.proofs.lemmas.Bool.Decides.{nat_tests}
 use Rattle.frames.specs.Edition.{extra, segment_bytes, frame_bytes, most_nodes, most_segments, most_feet, crosses_nothing, most_kept}
 use Rattle.frames.specs.Steps.Sizes.{county_size, county_feet, most_bytes}
 use Rattle.frames.specs.Ranges.{within}
@@ -22,9 +22,9 @@ pub frame_least : (e : ℕ) → segment_bytes ≤ frame_bytes e
 frame_least e = omega (arith, frame_extra e)
 
 -- a control that crosses nothing is none of those that have lanes and a speed
-pub crosses_or_not : (e control : ℕ) → crosses_nothing e control ≡ true → within 2 4 control ≡ false
+pub crosses_or_not : (newer : Bool) (control : ℕ) → crosses_nothing newer control ≡ true → within 2 4 control ≡ false
 unfolding crosses_nothing
-crosses_or_not e control h = let few : control < 2 = omega (arith, leb-true control 1 h) in rw (lt-leb 2 control few)
+crosses_or_not newer control h = grind (arith, nat_tests)
 
 pub nodes_few : (e : ℕ) → most_nodes e ≤ county_size
 unfolding most_nodes

@@ -1,4 +1,5 @@
--- A number that is within two others is no less than the one and no greater than the other; and what the code's tests of fields answer.
+-- A number that is within two others is no less than the one and no greater than the other; what the code's tests of fields answer; and what the older rules
+-- allow, the newer ones do.
 -- Assumes nothing.
 use Rattle.std.specs.declared.ops.RangeInclusive.{RangeInclusive}
 use Rattle.std.specs.Range.{range_inclusive_start, range_inclusive_end, range_inclusive_exhausted, range_inclusive_contains}
@@ -6,12 +7,15 @@ use Rattle.std.proofs.Common.{rules, Some, nat_cmp}
 use Rattle.std.proofs.lemmas.Bool.Decides.{nat_tests}
 use Prim.Native.Nat.{ℕ, ◌≤◌}
 use mathlib.Core.Bool.{Bool, true, false, ◌&&◌, ◌||◌}
-use mathlib.Core.Path.{◌≡◌}
+use mathlib.Core.Path.{◌≡◌, refl, sym}
+use mathlib.Core.List.{List}
 use native.Mathlib.Omega.{arith}
 use lib.Dec.{leb, eqb}
 use borrow.Author.Tests.{leb-true}
 use Rattle.lists.proofs.Facts.{and_true}
-use Rattle.frames.specs.Ranges.{within}
+use Rattle.frames.specs.Edition.{most_turn_feet, marks_ok, crosses_nothing}
+use Rattle.frames.specs.Frame.{marks, control, turn_kind, turn_feet, turning_speed, approach_b, approach_a}
+use Rattle.frames.specs.Ranges.{within, form_ok, crossing_ok, no_lane, turn_lane_ok, approach_ok, street_by}
 
 pub within_low : (lo hi x : ℕ) → within lo hi x ≡ true → lo ≤ x
 within_low lo hi x e = leb-true lo x (and_true (leb lo x) (leb x hi) e).0
@@ -28,3 +32,53 @@ contains_within s lo hi x a b c = rw (a, b, c) (search rules)
 pub other_form : (form : ℕ) (a b c d none w x y z : Bool) → (form ≡ 3 → ⊥)
     → (leb form 2 && a && b && c && d && (within 1 2 form || none) || (eqb form 3 && w && x && y && z)) ≡ (leb form 2 && a && b && c && d && (leb 1 form || none))
 other_form form a b c d none w x y z h = grind (arith, nat_tests)
+
+-- a turn lane whose fields are all 0 is none; another one has the ranges of the kinds from 1 on
+module _ (f : List ℕ) (i : ℕ) where
+  pub lane_absent : no_lane f i ≡ true → turn_lane_ok f i ≡ true
+  unfolding turn_lane_ok
+  lane_absent h = rw h
+
+  pub lane_there : no_lane f i ≡ false
+      → turn_lane_ok f i ≡ (within 1 3 (turn_kind f i) && within 1 most_turn_feet (turn_feet f i) && within 5 85 (turning_speed f i))
+  unfolding turn_lane_ok
+  lane_there h = rw h
+
+-- ---- what the older rules allow, the newer ones do
+newer_marks : (marks : ℕ) → marks_ok false marks ≡ true → marks_ok true marks ≡ true
+unfolding marks_ok
+newer_marks marks h = grind (arith, nat_tests)
+
+newer_crosses : (control : ℕ) → crosses_nothing false control ≡ true → crosses_nothing true control ≡ true
+unfolding crosses_nothing
+newer_crosses control h = grind (arith, nat_tests)
+
+module _ (f : List ℕ) where
+  newer_form : (e : ℕ) → form_ok false e f ≡ true → form_ok true e f ≡ true
+  unfolding form_ok
+  newer_form e h = let n = newer_marks (marks e f) in grind (arith, nat_tests)
+
+  newer_crossing : (i : ℕ) → crossing_ok false f i ≡ true → crossing_ok true f i ≡ true
+  unfolding crossing_ok
+  newer_crossing i h = let n = newer_crosses (control f i) in grind (arith, nat_tests)
+
+  newer_approach : (i : ℕ) → approach_ok false f i ≡ true → approach_ok true f i ≡ true
+  unfolding approach_ok
+  newer_approach i h = let n = newer_crossing i in grind (arith, nat_tests)
+
+  pub newer_street : (e : ℕ) → street_by false e f ≡ true → street_by true e f ≡ true
+  unfolding street_by
+  newer_street e h =
+      let form = newer_form e in
+      let b = newer_approach (approach_b e) in
+      let a = newer_approach (approach_a e) in
+      grind (arith, nat_tests)
+
+-- so the older ones are asked first, and the newer ones where the edition has them
+pub street_older : (e : ℕ) (f : List ℕ) (newer : Bool) → street_by false e f ≡ true → street_by newer e f ≡ true
+street_older e f false h = h
+street_older e f true h = newer_street f e h
+
+pub street_newer : (e : ℕ) (f : List ℕ) (newer : Bool) → street_by false e f ≡ false → (newer && street_by true e f) ≡ street_by newer e f
+street_newer e f false h = sym h
+street_newer e f true h = refl

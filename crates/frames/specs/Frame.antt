@@ -28,7 +28,7 @@ check_ok f = eqb (total f % 256) 0
 abbrev pub is_frame : ℕ → ℕ → List ℕ → Bool
 is_frame kind size f = eqb (byte f 0) kind && eqb (length f) size
 
--- ---- Head, 7 bytes: kind 01; edition 01; nodes N, 2 bytes; segments S, 2 bytes; check.
+-- ---- Head, 7 bytes: kind 01; edition; nodes N, 2 bytes; segments S, 2 bytes; check.
 abbrev pub head_bytes : ℕ
 head_bytes = 7
 

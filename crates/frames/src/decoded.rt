@@ -1,7 +1,7 @@
 // The decoded values of a head and of a segment's frame, read where they stand.
 ghost use Rattle.std.specs.Prelude.{◌+◌, ◌≤◌, ◌<◌, ◌≡◌, length};
 ghost use Rattle.frames.specs.Edition.{frame_bytes};
-ghost use Rattle.frames.specs.Frame.{head_bytes};
+ghost use Rattle.frames.specs.Frame.{head_bytes, ways};
 ghost use Rattle.frames.specs.Decoded.{head_fields, form_of, crossing_of, turn_lane_of};
 
 use crate::edition::extra_of;
@@ -21,6 +21,13 @@ pub fn head_of(h: &[u8]) -> Head
 }
 
 impl Frame<'_> {
+    // The ways in which the segment is open.
+    pub fn ways(&self) -> u8
+        ensures { result ≡ ways self.now.edition self.now.bytes.now }
+    {
+        self.bytes[extra_of(self.edition) + fields::WAYS]
+    }
+
     // The segment's form, with only the fields that its case has.
     #[tactic(auto, unfolding(crate::specs::Decoded::form_of))]
     pub fn form(&self) -> Form
@@ -68,7 +75,8 @@ impl Frame<'_> {
             1 => Crossing::Signal,
             2 => Crossing::NoIsland { lanes, speed },
             3 => Crossing::Island { lanes, speed },
-            _ => Crossing::OneWay { lanes, speed },
+            4 => Crossing::OneWay { lanes, speed },
+            _ => Crossing::ImprovedSignal,
         }
     }
 

@@ -1,6 +1,6 @@
-// What an edition fixes. Only edition 01 exists: a later one adds its case to the functions of this file that it changes.
+// What an edition fixes. Editions 01 and 02 exist: a later one adds its case to the functions of this file that it changes.
 ghost use Rattle.std.specs.Prelude.{◌≡◌};
-ghost use Rattle.frames.specs.Edition.{edition_ok, most_nodes, most_segments, most_feet, marks_ok, crosses_nothing};
+ghost use Rattle.frames.specs.Edition.{edition_ok, is_newer, most_nodes, most_segments, most_feet, marks_ok, crosses_nothing};
 ghost use Rattle.frames.specs.Steps.Sizes.{Extra, FrameSize};
 
 use crate::fields;
@@ -19,7 +19,15 @@ pub const SEGMENT_BYTES: usize = 30;
 pub fn edition_ok(e: u8) -> bool
     ensures { result ≡ edition_ok e }
 {
-    e == 1
+    (e == 1) | (e == 2)
+}
+
+// Whether the edition has the newer rules of document 02's Note 5: every one after edition 01.
+#[tactic(auto, unfolding(crate::specs::Edition::is_newer))]
+pub fn is_newer(e: u8) -> bool
+    ensures { result ≡ is_newer e }
+{
+    e >= 2
 }
 
 // The most nodes that a head may have.
@@ -61,18 +69,18 @@ pub fn most_feet(e: u8) -> usize
     52800
 }
 
-// Marks that are a sum of the edition's.
+// Marks that are a sum of those that the rules have.
 #[tactic(auto, unfolding(crate::specs::Edition::marks_ok))]
-pub fn marks_ok(e: u8, marks: u8) -> bool
-    ensures { result ≡ marks_ok e marks }
+pub fn marks_ok(newer: bool, marks: u8) -> bool
+    ensures { result ≡ marks_ok newer marks }
 {
-    marks <= 15
+    marks <= if newer { 31 } else { 15 }
 }
 
 // Controls that have lanes and speed 0.
 #[tactic(auto, unfolding(crate::specs::Edition::crosses_nothing))]
-pub fn crosses_nothing(e: u8, control: u8) -> bool
-    ensures { result ≡ crosses_nothing e control }
+pub fn crosses_nothing(newer: bool, control: u8) -> bool
+    ensures { result ≡ crosses_nothing newer control }
 {
-    control <= 1
+    control <= 1 || (newer && control == 5)
 }

@@ -1,5 +1,5 @@
-// Frames of document 01: where their fields stand, what an edition fixes, the ranges and rules of the fields, and the decoded values. The definitions are in
-// specs/; every function is equated with one of them.
+// Frames of document 01, and of document 02's Note 5: where their fields stand, what an edition fixes, the ranges and rules of the fields, and the decoded
+// values. The definitions are in specs/; every function is equated with one of them.
 #![tactic(auto)]
 
 pub mod decoded;
@@ -51,6 +51,8 @@ pub enum Crossing {
     NoIsland { lanes: u8, speed: u8 },
     Island { lanes: u8, speed: u8 },
     OneWay { lanes: u8, speed: u8 },
+    // A signal with a bicycle left-turn improvement.
+    ImprovedSignal,
 }
 
 // The turn lane met there: its length in feet and the speed of the turning traffic.

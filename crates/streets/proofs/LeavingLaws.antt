@@ -12,7 +12,7 @@ use Rattle.std.proofs.lemmas.Bool.Decides.{nat_tests}
 use Rattle.lists.specs.Lists.{at}
 use Rattle.frames.specs.Edition.{most_feet}
 use Rattle.frames.specs.Frame.{feet}
-use Rattle.frames.specs.Ranges.{street_ok}
+use Rattle.frames.specs.Ranges.{street_by, street_ok}
 use Rattle.frames.proofs.FrameLaws.{EndLimits}
 use Rattle.network.specs.Legs.{corner}
 use Rattle.network.specs.Network.{edition_of, nodes_of, segments_of, is_network}
@@ -25,7 +25,7 @@ use Rattle.streets.proofs.EndLaws.{run_limits}
 
 -- ---- feet
 street_feet : (e : ℕ) (f : List ℕ) → street_ok e f ≡ true → (1 ≤ feet e f) × (feet e f ≤ most_feet e)
-unfolding street_ok
+unfolding street_by
 street_feet e f h = grind (arith, nat_tests)
 
 module _ {net : List ℕ} {r : ℕ} (R : RunOf net r) where

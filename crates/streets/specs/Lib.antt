@@ -2,6 +2,8 @@ pub mod Exits
 pub mod Runs
 pub mod Bicycle
 pub mod FormerBicycle
+pub mod OlderBicycle
+pub mod Editions
 pub mod NextBelow
 pub mod UsedLegs
 pub mod NoteFour

@@ -11,7 +11,7 @@ use borrow.Author.Tests.{leb-true, leb-false, le-leb, lt-leb}
 use Rattle.lists.proofs.Facts.{and_true}
 use Rattle.frames.specs.declared.Form.{Form}
 use Rattle.frames.specs.declared.Form.TheVariants.{Mixed, BesideParking, BikeLane, SeparatePath}
-use Rattle.stress.specs.Segment.{is_quiet, parking_lanes, parking_reach, parking_speed, blocked_level, grade_of_four, grade_of}
+use Rattle.stress.specs.Segment.{is_quiet, parking_lanes, parking_reach, parking_speed, blocked_level, grade_of_four, older_grade}
 use Rattle.stress.specs.Amendment.{former_reach, former_grade, is_amended, other_measures, Amendment}
 
 -- ---- the measure, by its tests: a and b are those of the two upper rows, n is that of 27 and under, q is the footnote's
@@ -53,8 +53,8 @@ second_apart : (one two three four n : ℕ) → two ≡ n → max (max one two) 
 second_apart one two three four n e = omega arith
 
 -- ---- the amendment
-never_higher : (form : Form) → (grade_of 1 form).level ≤ (former_grade form).level
-unfolding grade_of former_grade grade_of_four
+never_higher : (form : Form) → (older_grade form).level ≤ (former_grade form).level
+unfolding older_grade former_grade grade_of_four
 never_higher (Mixed lanes speed marks) = omega arith
 never_higher (BesideParking lanes speed reach marks) =
     greatest_no_higher (parking_lanes lanes) (parking_reach speed reach marks) (former_reach reach) (parking_speed speed) (blocked_level marks)
@@ -62,8 +62,8 @@ never_higher (BesideParking lanes speed reach marks) =
 never_higher (BikeLane lanes speed reach marks) = omega arith
 never_higher SeparatePath = omega arith
 
-elsewhere : (form : Form) → is_amended form ≡ false → grade_of 1 form ≡ former_grade form
-unfolding grade_of former_grade
+elsewhere : (form : Form) → is_amended form ≡ false → older_grade form ≡ former_grade form
+unfolding older_grade former_grade
 elsewhere (Mixed lanes speed marks) e = refl
 elsewhere (BesideParking lanes speed reach marks) e =
     ap (λ (two : ℕ). grade_of_four (parking_lanes lanes) two (parking_speed speed) (blocked_level marks)) (reach_same reach speed marks e)
@@ -77,8 +77,8 @@ module _ (lanes speed reach marks : ℕ) (e : is_amended (BesideParking lanes sp
       second_apart (parking_lanes lanes) (former_reach reach) (parking_speed speed) (blocked_level marks) 3
       (lowest_row reach 3 (and_true (leb reach 27) (is_quiet speed marks) e).0)
 
-  level_after : (grade_of 1 (BesideParking lanes speed reach marks)).level ≡ max 2 (other_measures lanes speed marks)
-  unfolding grade_of grade_of_four
+  level_after : (older_grade (BesideParking lanes speed reach marks)).level ≡ max 2 (other_measures lanes speed marks)
+  unfolding older_grade grade_of_four
   level_after =
       let both = and_true (leb reach 27) (is_quiet speed marks) e in
       second_apart (parking_lanes lanes) (parking_reach speed reach marks) (parking_speed speed) (blocked_level marks) 2

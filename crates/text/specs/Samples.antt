@@ -1,5 +1,5 @@
 -- Document 01, "Starred and plain examples": the input that the paper prints, and what Read says of it and of its neighbours, one for each number 1 to
--- 7. Its proof is proofs/SamplesHold.antt.
+-- 7. And the values that edition 02 alone has. Its proof is proofs/SamplesHold.antt.
 -- Assumes nothing.
 use Rattle.std.specs.Prelude.{ℕ, ◌≡◌, true, false, List, [], ◌∷◌, ◌++◌}
 use Prim.Native.Char.{code}
@@ -16,7 +16,7 @@ abbrev pub line : String → List ℕ
 line end = 0x0A ∷ []
 line (c then cs) = code c ∷ line cs
 
--- Heads of two nodes and one segment, two segments, none; of edition 02.
+-- Heads of two nodes and one segment, two segments, none; of edition 02; of edition 04, which does not exist.
 abbrev pub one : List ℕ
 one = line "010100020001FB"
 
@@ -26,8 +26,11 @@ two = line "010100020002FA"
 abbrev pub no : List ℕ
 no = line "010100020000FC"
 
+abbrev newer : List ℕ
+newer = line "010200020001FA"
+
 abbrev later : List ℕ
-later = line "010200020001FA"
+later = line "010400020001F8"
 
 -- The segment of the example; the paper's line with a lowercase digit and a space; and the segment with a lowercase digit alone, another check, ways 0, node 2, and both ends at one leg.
 abbrev pub street : List ℕ
@@ -51,17 +54,45 @@ no_node = line "0200000200020601F40003021900010000000000000000000000000000E0"
 abbrev pub one_leg : List ℕ
 one_leg = line "0200000200000201F40003021900010000000000000000000000000000E6"
 
--- The kept bytes of the example.
+-- The segment with mark 10 (hexadecimal), with control 5 at its B end, with both; with mark 20, and with control 6.
+abbrev central_lane : List ℕ
+central_lane = line "0200000200010601F40003021900100000000000000000000000000000D2"
+
+abbrev improved : List ℕ
+improved = line "0200000200010601F40003021900010500000000000000000000000000DC"
+
+abbrev both_new : List ℕ
+both_new = line "0200000200010601F40003021900100500000000000000000000000000CD"
+
+abbrev mark_20 : List ℕ
+mark_20 = line "0200000200010601F40003021900200000000000000000000000000000C2"
+
+abbrev control_6 : List ℕ
+control_6 = line "0200000200010601F40003021900010600000000000000000000000000DB"
+
+-- The kept bytes of the example; and those of the segment with both new values, under edition 02.
 abbrev pub network : List ℕ
 network =
     0x01 ∷ 0x01 ∷ 0x00 ∷ 0x02 ∷ 0x00 ∷ 0x01 ∷ 0xFB ∷ 0x02 ∷ 0x00 ∷ 0x00 ∷ 0x02 ∷ 0x00 ∷ 0x01 ∷ 0x06 ∷ 0x01 ∷ 0xF4 ∷ 0x00 ∷ 0x03 ∷ 0x02 ∷
     0x19 ∷ 0x00 ∷ 0x01 ∷ 0x00 ∷ 0x00 ∷ 0x00 ∷ 0x00 ∷ 0x00 ∷ 0x00 ∷ 0x00 ∷ 0x00 ∷ 0x00 ∷ 0x00 ∷ 0x00 ∷ 0x00 ∷ 0x00 ∷ 0x00 ∷ 0xE1 ∷ []
+
+abbrev newer_network : List ℕ
+newer_network =
+    0x01 ∷ 0x02 ∷ 0x00 ∷ 0x02 ∷ 0x00 ∷ 0x01 ∷ 0xFA ∷ 0x02 ∷ 0x00 ∷ 0x00 ∷ 0x02 ∷ 0x00 ∷ 0x01 ∷ 0x06 ∷ 0x01 ∷ 0xF4 ∷ 0x00 ∷ 0x03 ∷ 0x02 ∷
+    0x19 ∷ 0x00 ∷ 0x10 ∷ 0x05 ∷ 0x00 ∷ 0x00 ∷ 0x00 ∷ 0x00 ∷ 0x00 ∷ 0x00 ∷ 0x00 ∷ 0x00 ∷ 0x00 ∷ 0x00 ∷ 0x00 ∷ 0x00 ∷ 0x00 ∷ 0xCD ∷ []
 
 pub record Samples : Type 0 where
   pub accepted : read_of (one ++ street) 37 ≡ kept network
   pub no_segments : read_of no 7 ≡ kept (0x01 ∷ 0x01 ∷ 0x00 ∷ 0x02 ∷ 0x00 ∷ 0x00 ∷ 0xFC ∷ [])
   pub passes : is_network network ≡ true
   pub too_long : is_network (network ++ (0x00 ∷ [])) ≡ false
+  -- The values of edition 02: accepted there, 4 under edition 01; beyond them 4 there too.
+  pub newer_accepted : read_of (newer ++ both_new) 37 ≡ kept newer_network
+  pub newer_passes : is_network newer_network ≡ true
+  pub mark_under_01 : read_of (one ++ central_lane) 37 ≡ refused 4 2
+  pub control_under_01 : read_of (one ++ improved) 37 ≡ refused 4 2
+  pub mark_beyond : read_of (newer ++ mark_20) 37 ≡ refused 4 2
+  pub control_beyond : read_of (newer ++ control_6) 37 ≡ refused 4 2
   -- 1: a lowercase digit, at any length of its line; no 0A; an empty line.
   pub not_digits : read_of (one ++ lowercase) 37 ≡ refused 1 2
   pub not_uppercase : read_of (one ++ lowered) 37 ≡ refused 1 2
