@@ -13,8 +13,8 @@
  * have no state of their own: they may run in many threads at once. A call
  * about a town (at most SPLICEREEL_TOWN_NODES nodes and
  * SPLICEREEL_TOWN_SEGMENTS segments) takes less than 64 KiB of stack, and one
- * about a larger network less than 448 KiB; every network of edition 01 is a
- * town.
+ * about a larger network less than 448 KiB; every network of editions 01 and 02
+ * is a town.
  *
  * Rules for what is lent, the only ones:
  *
@@ -32,6 +32,12 @@
  *
  * Segments are numbered from 0, in the order of their lines. Run 2s rides
  * segment s from its A end to its B end, run 2s + 1 from B to A.
+ *
+ * Editions 01 and 02 of the format are known, and a network is judged by the
+ * rules of the edition that its head names. The frames of both are the same.
+ * Edition 02 has a mark more, 16, a central two-way turn lane, and a control
+ * more, 5, a signal with a bicycle left-turn improvement; under edition 01 they
+ * are refused.
  */
 #ifndef SPLICEREEL_H
 #define SPLICEREEL_H
@@ -41,9 +47,9 @@
 
 /* The version of this header and of the archive that it belongs to. */
 #define SPLICEREEL_VERSION_MAJOR 0
-#define SPLICEREEL_VERSION_MINOR 3
+#define SPLICEREEL_VERSION_MINOR 4
 #define SPLICEREEL_VERSION_PATCH 0
-#define SPLICEREEL_VERSION "0.3.0"
+#define SPLICEREEL_VERSION "0.4.0"
 
 #ifdef __cplusplus
 extern "C" {
@@ -51,7 +57,7 @@ extern "C" {
 
 enum {
     /* Every network: none that Read can keep has more. Today that is the
-       largest of edition 01. */
+       largest of editions 01 and 02. */
     SPLICEREEL_MAX_NODES = 1000,
     SPLICEREEL_MAX_SEGMENTS = 1000,
     /* Kept bytes, 7 and 30 for each segment: an output so long serves every
@@ -218,6 +224,8 @@ enum splicereel_measure {
     SPLICEREEL_REACH = 2,
     SPLICEREEL_SPEED = 3,
     SPLICEREEL_BLOCKING = 4,
+    /* Under edition 02 also beside a bike lane, where riding in the traffic is
+       the lower level. */
     SPLICEREEL_MIXED_TRAFFIC = 5,
     SPLICEREEL_SEPARATE_PATH = 6
 };
@@ -267,6 +275,10 @@ uint32_t splicereel_refused_line(
  * (enum splicereel_measure). From version 0.2.0 on a reach of 27 and under
  * beside parking costs level 2, not 3, where the limit is below 25 mph or the
  * street is residential; Route and Least stress go by the same levels.
+ * Under edition 02 a turn lane (mark 16) between one lane each way makes the
+ * reach of a bike lane count 4 half feet more, and a street with a bike lane has
+ * the level of mixed traffic where that is lower, by twice its lanes where it
+ * is open both ways.
  * Refused: returns 8 or 12, told stays. The other elements of told stay.
  */
 uint32_t splicereel_judge_segment(
@@ -277,7 +289,8 @@ uint32_t splicereel_judge_segment(
 /*
  * Judge the movement from one run onto another.
  *
- * Returns 0: told[0] is the level, 1 to 4.
+ * Returns 0: told[0] is the level, 1 to 4. Under edition 02 a signal is level 4,
+ * and one with a bicycle left-turn improvement (control 5) level 1.
  * Refused: returns 8, 12 or 13, told stays. The other elements of told stay.
  */
 uint32_t splicereel_judge_movement(

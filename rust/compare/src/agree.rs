@@ -40,9 +40,33 @@ pub fn agree(
             holds(archive.output.untouched(), "an output was written")?;
             holds(archive.lent.untouched(), "a refusal wrote to what was lent")?;
             holds(archive.list.untouched(), "a refusal wrote to the list")?;
-            same_told(archive, &twin.told())
+            same_told(archive, &twin.told())?;
+            judged(question, town, archive)
         }
     }
+}
+
+/// A judgement must be the slow implementation's too.
+fn judged(question: Question<'_>, town: Option<&Net>, archive: &Seen) -> Result<(), Complaint> {
+    let Some(town) = town else { return Ok(()) };
+    let told = archive.told();
+    let (slow, fast) = match question {
+        Question::Segment { segment } => (
+            town.segment(segment)
+                .map(|(level, measure)| vec![level.into(), measure.into()]),
+            &told[..2],
+        ),
+        Question::Movement { first, second } => (
+            town.movement(first, second).map(|level| vec![level.into()]),
+            &told[..1],
+        ),
+        _ => return Ok(()),
+    };
+    let same = match &slow {
+        Ok(numbers) => archive.number == 0 && fast == numbers,
+        Err(number) => archive.number == u32::from(*number),
+    };
+    holds(same, &format!("the slow implementation says {slow:?}"))
 }
 
 /// A reach map or nearest node that was answered: the twin's, and nothing

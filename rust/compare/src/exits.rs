@@ -3,7 +3,7 @@
 use towns::sizes::{HEAD, SEGMENT};
 
 /// A movement onto another leg than the right-hand exit.
-const PASSED: &str = "exit: passed for another leg";
+pub const PASSED: &str = "exit: passed for another leg";
 /// The exit is a leg by which no open run leaves.
 const CLOSED: &str = "exit: no open run leaves by it";
 

@@ -16,6 +16,7 @@
 
 mod agree;
 pub mod calls;
+mod editions;
 mod exits;
 mod lines;
 pub mod question;

@@ -1,8 +1,8 @@
 //! What is asked about a text: Read, and the line that it refuses.
 
-use crate::Comparer;
 use crate::question::Question;
 use crate::rounds::{Done, Subject};
+use crate::{Comparer, Mismatch};
 use splicereel::ffi::Part;
 use std::ops::Range;
 use towns::draw::Rng;
@@ -31,8 +31,14 @@ const HUGE: [(usize, &str); 4] = [
 ];
 
 /// Read with an output of so many bytes, and the line that it refuses for that
-/// length; and for a far greater one, which alters nothing but 7.
-pub fn text(comparer: &mut Comparer<'_>, rng: &mut Rng, text: &[u8], room: usize) -> Done {
+/// length; and for a far greater one, which alters nothing but 7. Gives Read's
+/// number.
+pub fn text(
+    comparer: &mut Comparer<'_>,
+    rng: &mut Rng,
+    text: &[u8],
+    room: usize,
+) -> Result<u32, Box<Mismatch>> {
     let read = comparer.compare(rng, None, text, Question::Read { room })?;
     let read = (read.number, read.told()[0] as usize);
     let slow = oracle::refused_line(text, room);
@@ -51,7 +57,7 @@ pub fn text(comparer: &mut Comparer<'_>, rng: &mut Rng, text: &[u8], room: usize
             return Err(comparer.disagreement(text, question, complaint));
         }
     }
-    Ok(())
+    Ok(read.0)
 }
 
 /// The line where a part of a text begins, counted from 1.
@@ -128,7 +134,7 @@ fn edge_text(rng: &mut Rng, town: &Town, edge: &str) -> Option<Vec<u8>> {
     // With a line before it and one after it, where there are three.
     let middle = lines.len() / 2;
     let inner = lines.len() > 2;
-    let head = Town::new(town.nodes).text();
+    let head = Town::new(town.nodes).edition(town.edition).text();
     match edge {
         "empty" => lines.clear(),
         "0A alone" => lines = vec![vec![b'\n']],

@@ -1,5 +1,6 @@
 //! What the comparisons reached, so that nothing is left out unseen.
 
+use crate::editions::{self, control_case};
 use crate::exits;
 use crate::lines::{self, EDGES, LENGTHS};
 use crate::question::{Question, Seen};
@@ -25,27 +26,20 @@ impl Reached {
         let told = seen.told.now();
         let call = name(question);
         self.count(match (question, seen.number) {
-            (Question::Read { .. }, 0) => "read kept".into(),
+            (Question::Read { .. }, 0) => editions::of(edition_of_text(bytes), "read kept"),
             (Question::Read { .. }, number) => {
                 let position = position(bytes, number, told[0] as usize);
                 format!("read refused {number} at the {position} line")
             }
             (Question::RefusedLine { .. }, _) => refused_line(bytes, seen),
             (_, number @ 1..) => format!("{call} refused {number}"),
-            (Question::Segment { .. }, _) => format!("segment level {}", told[0]),
-            (Question::Movement { .. }, _) => format!("movement level {}", told[0]),
-            (
-                Question::Search {
-                    tolerance: Some(tolerance),
-                    ..
-                },
-                _,
-            ) => {
-                let found = if told[0] == 1 { "found" } else { "none" };
-                format!("route tolerance {tolerance} {found}")
+            (Question::Segment { .. }, _) => {
+                editions::of(bytes[1], &format!("segment level {}", told[0]))
             }
-            (Question::Search { .. }, _) if told[0] == 0 => "least none".into(),
-            (Question::Search { .. }, _) => format!("least tolerance {} found", told[4]),
+            (Question::Movement { .. }, _) => {
+                editions::of(bytes[1], &format!("movement level {}", told[0]))
+            }
+            (Question::Search { tolerance, .. }, _) => search_case(bytes[1], tolerance, told),
             (Question::Map { reach, .. }, _) => {
                 map_case(reach.tolerance, told[0] as usize, counts(bytes).0)
             }
@@ -64,13 +58,19 @@ impl Reached {
     fn details(&mut self, bytes: &[u8], question: Question<'_>, seen: &Seen) {
         let told = seen.told.now();
         if let (Question::Segment { segment }, 0) = (question, seen.number) {
-            self.count(format!("segment measure {}", told[1]));
+            let measure = format!("segment measure {}", told[1]);
+            self.of_edition(bytes, &measure);
             if let Some(street) = beside_parking(bytes, segment) {
-                self.count(street);
+                self.of_edition(bytes, &street);
             }
         }
         if let (Question::Movement { first, second }, 0) = (question, seen.number) {
-            for exit in exits::shown(bytes, first, second) {
+            let exits = exits::shown(bytes, first, second);
+            if let Some(exit) = exits.first() {
+                let passes = exit == exits::PASSED;
+                self.of_edition(bytes, &control_case(control(bytes, first), passes));
+            }
+            for exit in exits {
                 self.count(exit);
             }
         }
@@ -79,6 +79,11 @@ impl Reached {
             self.count(format!("{} {size} route", name(question)));
         }
         self.reach(bytes, question, seen.number);
+    }
+
+    /// Counts a thing of a network's edition.
+    fn of_edition(&mut self, net: &[u8], thing: &str) {
+        self.count(editions::of(net[1], thing));
     }
 
     /// Counts which networks and tolerances reach maps and nearest nodes met.
@@ -144,6 +149,16 @@ fn name(question: Question<'_>) -> &'static str {
     }
 }
 
+/// What a search in a network of an edition told.
+fn search_case(edition: u8, tolerance: Option<usize>, told: &[u32]) -> String {
+    let found = if told[0] == 1 { "found" } else { "none" };
+    match tolerance {
+        Some(tolerance) => editions::of(edition, &format!("route tolerance {tolerance} {found}")),
+        None if told[0] == 0 => "least none".into(),
+        None => editions::of(edition, &format!("least tolerance {} found", told[4])),
+    }
+}
+
 /// How many of the nodes a map lists.
 fn map_case(tolerance: usize, listed: usize, nodes: usize) -> String {
     let size = match listed {
@@ -158,6 +173,16 @@ fn map_case(tolerance: usize, listed: usize, nodes: usize) -> String {
 fn counts(net: &[u8]) -> (usize, usize) {
     let field = |at: usize| usize::from(u16::from_be_bytes([net[at], net[at + 1]]));
     (field(2), field(4))
+}
+
+/// The edition of a text whose head is in order.
+fn edition_of_text(text: &[u8]) -> u8 {
+    text[3] - b'0' // its second byte is below 10
+}
+
+/// The control that a run of a network meets where it arrives.
+fn control(net: &[u8], run: usize) -> u8 {
+    net[HEAD + SEGMENT * (run / 2) + [15, 22][run % 2]]
 }
 
 /// What a refused line was.
@@ -240,7 +265,7 @@ pub const ROOMS: [&str; 10] = [
 
 /// Everything that questions about texts have to reach.
 fn must_reach_in_texts() -> Vec<String> {
-    let mut all: Vec<String> = vec!["read kept".into()];
+    let mut all: Vec<String> = editions::of_both(&["read kept".into()]).collect();
     for call in ["read refused", "refused line:"] {
         for number in 1..=6 {
             for position in ["first", "middle", "last"] {
@@ -280,6 +305,23 @@ fn must_reach_in_maps() -> Vec<String> {
     all
 }
 
+/// Everything that judgements and routes have to reach in each edition.
+fn must_reach_in_levels() -> Vec<String> {
+    let mut all = Vec::new();
+    for number in 1..=4 {
+        all.push(format!("segment level {number}"));
+        all.push(format!("movement level {number}"));
+        all.push(format!("route tolerance {number} found"));
+        all.push(format!("route tolerance {number} none"));
+        all.push(format!("least tolerance {number} found"));
+    }
+    all.extend((1..=6).map(|measure| format!("segment measure {measure}")));
+    for (reach, speed) in REACHES.iter().flat_map(|r| SPEEDS.map(|s| (r, s))) {
+        all.extend(STREETS.map(|street| parking_case(reach, speed, street)));
+    }
+    all
+}
+
 /// Everything that a run of comparisons has to reach.
 fn must_reach() -> Vec<String> {
     let mut all = must_reach_in_texts();
@@ -298,17 +340,8 @@ fn must_reach() -> Vec<String> {
                 .map(|number| format!("{call} refused {number}")),
         );
     }
-    for number in 1..=4 {
-        all.push(format!("segment level {number}"));
-        all.push(format!("movement level {number}"));
-        all.push(format!("route tolerance {number} found"));
-        all.push(format!("route tolerance {number} none"));
-        all.push(format!("least tolerance {number} found"));
-    }
-    all.extend((1..=6).map(|measure| format!("segment measure {measure}")));
-    for (reach, speed) in REACHES.iter().flat_map(|r| SPEEDS.map(|s| (r, s))) {
-        all.extend(STREETS.map(|street| parking_case(reach, speed, street)));
-    }
+    all.extend(editions::of_both(&must_reach_in_levels()));
+    all.extend(editions::must_show());
     all.extend(exits::must_show());
     for call in ["route", "least"] {
         all.extend(["empty", "ridden"].map(|size| format!("{call} {size} route")));

@@ -3,11 +3,12 @@
 
 use crate::question::Question;
 use crate::reached::ROOMS;
-use crate::{Comparer, Mismatch, lines, reach};
+use crate::{Comparer, Mismatch, editions, lines, reach};
 use oracle::Net;
 use splicereel::ffi::Told;
 use splicereel::{MAX_NETWORK, TOWN_SEGMENTS};
 use towns::draw::{self, Rng, Shape, Spot, damage, damage_kept};
+use towns::edition::{EDITIONS, all_marks};
 use towns::lend::Lengths;
 use towns::town::{Town, text_of};
 
@@ -49,8 +50,12 @@ pub fn play(comparer: &mut Comparer<'_>, rng: &mut Rng) -> Done {
         _ => rng.range(TOWN_SEGMENTS - 100, TOWN_SEGMENTS),
     };
     let seed = rng.bits();
-    let town = draw::town(shape, seed, segments);
-    comparer.about = format!("{} from seed {seed}, {segments} segments", shape.name());
+    let edition = rng.pick(&EDITIONS);
+    let town = draw::town_of(edition, shape, seed, segments);
+    comparer.about = format!(
+        "{} of edition {edition} from seed {seed}, {segments} segments",
+        shape.name()
+    );
     comparer.reached.count(format!("shape: {}", shape.name()));
     let subject = Subject::new(town);
     texts(comparer, rng, &subject)?;
@@ -63,6 +68,9 @@ pub fn play(comparer: &mut Comparer<'_>, rng: &mut Rng) -> Done {
     reach::reach(comparer, rng, &subject)?;
     reach::odd(comparer, rng, &subject)?;
     no_networks(comparer, rng, &subject)?;
+    editions::values(comparer, rng, &subject)?;
+    editions::streets(comparer, rng, &subject)?;
+    editions::both(comparer, rng, &subject)?;
     narrow_parking(comparer, rng, subject)?;
     reach::ties(comparer, rng)
 }
@@ -126,7 +134,10 @@ fn changed_field(rng: &mut Rng, town: &Town) -> (Vec<u8>, Vec<u8>) {
     let place = rng.below(frames.len());
     let frame = &mut frames[place];
     let at = rng.below(frame.len());
-    frame[at] = rng.pick(&[0, 1, 2, 3, 4, 5, 7, 8, 12, 13, 60, 61, 85, 86, 255]);
+    let number = rng.pick(&[
+        0, 1, 2, 3, 4, 5, 6, 7, 8, 12, 13, 16, 31, 32, 60, 61, 85, 86, 255,
+    ]);
+    frame[at] = number;
     draw::seal(frame);
     (text_of(&frames), frames.concat())
 }
@@ -228,14 +239,15 @@ fn pairs(comparer: &mut Comparer<'_>, rng: &mut Rng, subject: &Subject) -> Done 
 }
 
 /// Two nodes at every tolerance and by Least stress: the answers must rise
-/// with the tolerance, and Least stress must be the first of them.
-fn pair(
+/// with the tolerance, and Least stress must be the first of them. Gives what
+/// was told.
+pub fn pair(
     comparer: &mut Comparer<'_>,
     rng: &mut Rng,
     subject: &Subject,
     from: usize,
     to: usize,
-) -> Done {
+) -> Result<Vec<Told>, Box<Mismatch>> {
     let mut answers = Vec::new();
     for tolerance in [Some(1), Some(2), Some(3), Some(4), None] {
         let lengths = enough(rng, subject.runs());
@@ -248,10 +260,11 @@ fn pair(
         let answer = comparer.compare(rng, subject.net.as_ref(), &subject.bytes, question)?;
         answers.push(answer.told());
     }
-    consistent(&answers).map_err(|complaint| {
+    if let Err(complaint) = consistent(&answers) {
         let question = format!("from {from} to {to}, tolerances 1 to 4 and least: {answers:?}");
-        comparer.disagreement(&subject.bytes, question, complaint)
-    })
+        return Err(comparer.disagreement(&subject.bytes, question, complaint));
+    }
+    Ok(answers)
 }
 
 /// Of what was told at tolerances 1 to 4 and by Least stress.
@@ -388,13 +401,14 @@ fn narrow_parking(comparer: &mut Comparer<'_>, rng: &mut Rng, mut subject: Subje
         return Ok(());
     }
     let segment = rng.below(subject.town.segments.len());
+    let marks = rng.below(1 + usize::from(all_marks(subject.town.edition))) as u8;
     let street = &mut subject.town.segments[segment];
     *street = street.street(
         1,
         rng.pick(&[1, 1, 1, 2]),
         rng.pick(&[5, 23, 24, 25, 26, 30, 31, 36]),
         rng.pick(&[0, 26, 27, 28, 29, 30]),
-        rng.below(16) as u8,
+        marks,
     );
     let ends = [street.a, street.b].map(|end| usize::from(end.node));
     let subject = Subject::new(subject.town);
@@ -404,7 +418,7 @@ fn narrow_parking(comparer: &mut Comparer<'_>, rng: &mut Rng, mut subject: Subje
         &subject.bytes,
         Question::Segment { segment },
     )?;
-    pair(comparer, rng, &subject, ends[0], ends[1])
+    pair(comparer, rng, &subject, ends[0], ends[1]).map(|_| ())
 }
 
 #[cfg(test)]

@@ -1,14 +1,16 @@
 //! The archive against the twin, and the comparison against faults made on
 //! purpose.
 
+mod misread;
+
 use compare::Comparer;
 use compare::calls::{Archive, Calls, Reach, Twin};
 use splicereel::ffi::{Lent, Part, Scratch, Told};
 use towns::draw;
 use towns::sizes::{HEAD, SEGMENT};
-use towns::town::{CENTRELINE, RESIDENTIAL};
+use towns::town::{NEWER, SIGNAL};
 
-/// Rounds of about 290 comparisons each; a mismatch tells how to replay it.
+/// Rounds of about 390 comparisons each; a mismatch tells how to replay it.
 const ROUNDS: u64 = 1_500;
 
 #[test]
@@ -29,6 +31,7 @@ fn archive_and_twin_agree() {
 /// What a wrong implementation does.
 #[derive(Clone, Copy, Debug, PartialEq)]
 enum Fault {
+    Nothing,
     Line,
     ByteKept,
     OutputPastTheEnd,
@@ -51,6 +54,28 @@ enum Fault {
     NoFootnote,
     QuietAt25,
     QuietByCentreline,
+    MixedWhereEqual,
+    MixedWithoutItsMeasure,
+    MixedNever,
+    MixedAtOnceItsLanes,
+    MixedAtTwiceItsLanes,
+    WidenedOneWay,
+    WidenedByTwo,
+    WidenedByFive,
+    WidenedWithoutMark,
+    NeverWidened,
+    SignalAtOne,
+    SignalOntoTheExit,
+    ImprovedSignalAtFour,
+    NewerRulesUnder01,
+    MarksTo63,
+    ReadsMarksTo63,
+    MarkUnder01,
+    ControlSix,
+    ImprovedSignalUnder01,
+    ReadsImprovedSignalUnder01,
+    No02,
+    ReadsNo02,
     NarrowSegment,
     NarrowRun,
     NarrowTolerance,
@@ -91,7 +116,7 @@ enum Fault {
     ToldOnEntriesRefused,
 }
 
-const FAULTS: [Fault; 60] = [
+const FAULTS: [Fault; 82] = [
     Fault::Line,
     Fault::ByteKept,
     Fault::OutputPastTheEnd,
@@ -114,6 +139,28 @@ const FAULTS: [Fault; 60] = [
     Fault::NoFootnote,
     Fault::QuietAt25,
     Fault::QuietByCentreline,
+    Fault::MixedWhereEqual,
+    Fault::MixedWithoutItsMeasure,
+    Fault::MixedNever,
+    Fault::MixedAtOnceItsLanes,
+    Fault::MixedAtTwiceItsLanes,
+    Fault::WidenedOneWay,
+    Fault::WidenedByTwo,
+    Fault::WidenedByFive,
+    Fault::WidenedWithoutMark,
+    Fault::NeverWidened,
+    Fault::SignalAtOne,
+    Fault::SignalOntoTheExit,
+    Fault::ImprovedSignalAtFour,
+    Fault::NewerRulesUnder01,
+    Fault::MarksTo63,
+    Fault::ReadsMarksTo63,
+    Fault::MarkUnder01,
+    Fault::ControlSix,
+    Fault::ImprovedSignalUnder01,
+    Fault::ReadsImprovedSignalUnder01,
+    Fault::No02,
+    Fault::ReadsNo02,
     Fault::NarrowSegment,
     Fault::NarrowRun,
     Fault::NarrowTolerance,
@@ -171,33 +218,6 @@ impl Faulty {
     }
 }
 
-impl Faulty {
-    /// A network as a program takes it that is wrong about Note 2 of document
-    /// 02: its streets beside parking with other speeds or marks, which by
-    /// document 01 have the same levels.
-    fn misread(&self, net: &[u8]) -> Vec<u8> {
-        let mut net = net.to_vec();
-        let frames = net.get_mut(HEAD..).unwrap_or_default();
-        for frame in frames.chunks_exact_mut(SEGMENT) {
-            let whole = frame.iter().fold(0u8, |sum, &byte| sum.wrapping_add(byte)) == 0;
-            if let (true, [.., speed, _, marks]) = (whole && frame[9] == 1, &mut frame[..15]) {
-                match self.0 {
-                    Fault::NoFootnote => {
-                        (*speed, *marks) = ((*speed).max(25), *marks & !RESIDENTIAL);
-                    }
-                    Fault::QuietAt25 if *speed == 25 => *speed = 24,
-                    Fault::QuietByCentreline => {
-                        *marks = *marks & !RESIDENTIAL | (*marks & CENTRELINE) << 1;
-                    }
-                    _ => {}
-                }
-                draw::seal(frame);
-            }
-        }
-        net
-    }
-}
-
 /// A network with the legs numbered the other way round each node, so that
 /// stepping down from a leg is stepping up from it.
 fn mirrored(net: &[u8]) -> Vec<u8> {
@@ -235,6 +255,12 @@ fn without_closed(net: &[u8], first: usize, second: usize) -> (Vec<u8>, [usize; 
     )
 }
 
+/// Whether a run of a network of edition 02 arrives at a signal.
+fn signal_ahead(net: &[u8], run: usize) -> bool {
+    let frame = &net[HEAD + SEGMENT * (run / 2)..];
+    net[1] == NEWER && frame[[15, 22][run % 2]] == SIGNAL
+}
+
 /// Changes the number at an index, if there is one.
 fn spoil<T: Copy + std::ops::Not<Output = T>>(numbers: &mut [T], at: usize) {
     if let Some(number) = numbers.get_mut(at) {
@@ -251,7 +277,7 @@ fn line_at(text: &[u8], start: usize) -> Part {
 
 impl Calls for Faulty {
     fn read(&self, text: &[u8], output: &mut [u8], told: &mut Told) -> u32 {
-        let number = Twin.read(text, output, told);
+        let number = Twin.read(&self.mistyped(text), output, told);
         match (self.0, number) {
             (Fault::Line, 1..) => told[0] += 1,
             (Fault::ByteKept, 0) => spoil(output, told[0] as usize - 1),
@@ -296,6 +322,7 @@ impl Calls for Faulty {
             (Fault::Measure, 0) if told[1] == 4 => told[1] = 1,
             (Fault::ThreesAndFoursMerged, 0) if told[0] == 3 => told[0] = 4,
             (Fault::ToldOnRefusal, 1..) => told[0] = 0,
+            (_, 0) => self.misjudge(net, segment, told),
             _ => {}
         }
         number
@@ -303,8 +330,12 @@ impl Calls for Faulty {
 
     fn judge_movement(&self, net: &[u8], first: usize, second: usize, told: &mut Told) -> u32 {
         let first = self.narrow(Fault::NarrowRun, first);
-        let number = Twin.judge_movement(net, first, second, told);
+        let number = Twin.judge_movement(&self.misread(net), first, second, told);
         match (self.0, number) {
+            (Fault::SignalOntoTheExit, 0) if signal_ahead(net, first) => {
+                told[0] = 4;
+                number
+            }
             (Fault::ExitAbove, 0) => Twin.judge_movement(&mirrored(net), first, second, told),
             (Fault::ClosedRunsUncounted, 0) => {
                 let (net, [first, second]) = without_closed(net, first, second);
@@ -362,7 +393,7 @@ impl Calls for Faulty {
             Fault::OneNumberAnEntry if (nodes..2 * nodes).contains(&list.len()) => {
                 Twin.reach_map(net, asked, again, &mut long, told)
             }
-            _ => Twin.reach_map(net, asked, again, list, told),
+            _ => Twin.reach_map(&self.misread(net), asked, again, list, told),
         };
         self.spoil_map(number, reach, list, told, &before);
         self.spoil_entries(number, list.len() < 2 * nodes, scratch, told)
@@ -384,7 +415,7 @@ impl Calls for Faulty {
         let nodes = nodes(net);
         let taken = self.mistaken(marks, nodes, from);
         let garbage = *told;
-        let number = Twin.nearest(net, from, tolerance, &taken, again, told);
+        let number = Twin.nearest(&self.misread(net), from, tolerance, &taken, again, told);
         if self.has(Fault::HigherOfATie) && number == 0 && told[0] == 1 {
             let room = (scratch.best.len(), scratch.previous.len());
             told[1] = highest_as_near(net, from, tolerance, marks, room, told);
@@ -563,6 +594,18 @@ impl Faulty {
             _ => {}
         }
         number
+    }
+}
+
+/// What takes its inputs anew, and changes nothing in them, is right.
+#[test]
+fn nothing_is_found_where_nothing_is_wrong() {
+    let right = Faulty(Fault::Nothing);
+    let mut comparer = Comparer::new(&right, 7);
+    for round in 0..ROUNDS / 30 {
+        if let Err(mismatch) = comparer.round(round) {
+            panic!("{mismatch}");
+        }
     }
 }
 

@@ -38,12 +38,27 @@ pub(crate) fn sum_is_zero(bytes: &[u8]) -> bool {
     bytes.iter().map(|&b| u64::from(b)).sum::<u64>() % 256 == 0
 }
 
-/// Nodes and segments of a head, if its fields after the kind are in order.
-pub(crate) fn counts(head: &[u8]) -> Option<(u32, usize)> {
-    let mut t = Taker(head.iter());
-    let _kind = t.one()?;
-    let _edition = within(t.one()?, 1, 1)?;
-    let nodes = within(t.two()?, 1, MOST_NODES)?;
-    let segments = within(t.two()?, 0, MOST_SEGMENTS)?;
-    Some((nodes, segments as usize))
+/// What a head says.
+#[derive(Clone, Copy, Debug)]
+pub(crate) struct Head {
+    /// 1 or 2.
+    pub edition: u32,
+    pub nodes: u32,
+    pub segments: usize,
+}
+
+impl Head {
+    /// The fields after the kind, if they are in order.
+    pub fn parse(head: &[u8]) -> Option<Head> {
+        let mut t = Taker(head.iter());
+        let _kind = t.one()?;
+        let edition = within(t.one()?, 1, 2)?;
+        let nodes = within(t.two()?, 1, MOST_NODES)?;
+        let segments = within(t.two()?, 0, MOST_SEGMENTS)? as usize;
+        Some(Head {
+            edition,
+            nodes,
+            segments,
+        })
+    }
 }

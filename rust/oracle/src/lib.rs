@@ -1,10 +1,11 @@
 //! Bicycle stress levels and least-stress routes once more, simple and slow.
 //!
-//! Written from "document 01" and Notes 1 to 3 of "document 02" alone, it shares no code with any
-//! other implementation, and nothing here was made faster: bytes are parsed into
-//! plain fields, the levels are looked up in tables, every movement is listed
-//! in advance, and lengths are relaxed over that list until nothing changes.
-//! Its answers are what tests store, and what the others are held to.
+//! Written from "document 01" and Notes 1 to 5 of "document 02" alone, it shares
+//! no code with any other implementation, and nothing here was made faster:
+//! bytes are parsed into plain fields, the levels are looked up in tables, every
+//! movement is listed in advance, and lengths are relaxed over that list until
+//! nothing changes. Its answers are what tests store, and what the others are
+//! held to.
 //!
 //! [`read`] is Read, [`refused_line`] the line that it refuses, [`Net`] a network
 //! with its judgements, [`Ways`] Route, Least stress, Reach map and Nearest;

@@ -1,6 +1,6 @@
 //! A network: its runs and movements, and routes over them.
 
-use crate::frame::{HEAD, SEGMENT, counts, sum_is_zero};
+use crate::frame::{HEAD, Head, SEGMENT, sum_is_zero};
 use crate::street::Street;
 
 /// A parsed network.
@@ -17,8 +17,8 @@ impl Net {
         if head[0] != 1 || !sum_is_zero(head) {
             return None;
         }
-        let (nodes, segments) = counts(head)?;
-        if frames.len() != SEGMENT * segments {
+        let head = Head::parse(head)?;
+        if frames.len() != SEGMENT * head.segments {
             return None;
         }
         let mut streets = Vec::new();
@@ -27,7 +27,7 @@ impl Net {
             if frame[0] != 2 || !sum_is_zero(frame) {
                 return None;
             }
-            let street = Street::parse(&frame[1..SEGMENT - 1], nodes)?;
+            let street = Street::parse(&frame[1..SEGMENT - 1], head)?;
             for end in street.ends {
                 if taken.contains(&end) {
                     return None;
@@ -36,6 +36,7 @@ impl Net {
             }
             streets.push(street);
         }
+        let nodes = head.nodes;
         Some(Net { nodes, streets })
     }
 

@@ -1,7 +1,7 @@
 //! Read: a network text, line by line, into kept bytes; and the line that it
 //! refuses.
 
-use crate::frame::{HEAD, SEGMENT, counts, sum_is_zero};
+use crate::frame::{HEAD, Head, SEGMENT, sum_is_zero};
 use crate::street::Street;
 use std::ops::Range;
 
@@ -13,7 +13,8 @@ pub fn read(text: &[u8], room: usize) -> Result<Vec<u8>, (u8, usize)> {
     let mut lines = (1..).zip(text.split_inclusive(|&b| b == b'\n'));
     let (_, first) = lines.next().ok_or((3, 1))?;
     let mut kept = sound_frame(first, 1, HEAD).map_err(|number| (number, 1))?;
-    let (nodes, segments) = counts(&kept).ok_or((4, 1))?;
+    let head = Head::parse(&kept).ok_or((4, 1))?;
+    let segments = head.segments;
     if room < HEAD + SEGMENT * segments {
         return Err((7, 1));
     }
@@ -24,7 +25,7 @@ pub fn read(text: &[u8], room: usize) -> Result<Vec<u8>, (u8, usize)> {
         if line > segments + 1 {
             return Err((5, line));
         }
-        let street = Street::parse(&frame[1..SEGMENT - 1], nodes).ok_or((4, line))?;
+        let street = Street::parse(&frame[1..SEGMENT - 1], head).ok_or((4, line))?;
         for end in street.ends {
             if taken.contains(&end) {
                 return Err((6, line));

@@ -1,6 +1,6 @@
 //! A segment in plain fields, and its levels by the tables.
 
-use crate::frame::{Taker, within};
+use crate::frame::{Head, Taker, within};
 
 /// Level by lane class (to 3, 4 or 5, 6 and more) and band, form 0 in general.
 const MIXED: [[u8; 4]; 3] = [[2, 3, 4, 4], [3, 4, 4, 4], [4, 4, 4, 4]];
@@ -10,6 +10,11 @@ const MIXED_CALM: [u8; 4] = [1, 2, 4, 4];
 const PARKING_SPEED: [u8; 4] = [1, 2, 3, 4];
 /// Measure 3 of form 2, by band.
 const LANE_SPEED: [u8; 4] = [1, 1, 3, 4];
+/// Controls at which no lanes are crossed, with their crossing level: by
+/// edition - 1, since Note 5 of document 02 adds one and changes another.
+const UNCROSSED: [&[(u32, u8)]; 2] = [&[(0, 1), (1, 1)], &[(0, 1), (1, 4), (5, 1)]];
+/// The greatest sum of marks, by edition - 1.
+const MOST_MARKS: [u32; 2] = [1 + 2 + 4 + 8, 1 + 2 + 4 + 8 + 16];
 /// Crossing level by control - 2, band and lanes crossed (index 0 unused).
 const CROSSED: [[[u8; 13]; 4]; 3] = [
     [
@@ -42,9 +47,16 @@ fn band(speed: u32) -> usize {
     band
 }
 
+/// The crossing level of a control at which no lanes are crossed.
+fn uncrossed(edition: u32, control: u32) -> Option<u8> {
+    let mut all = UNCROSSED[edition as usize - 1].iter();
+    all.find(|each| each.0 == control).map(|each| each.1)
+}
+
 /// What is met on riding in at an end.
 #[derive(Clone, Debug)]
 pub(crate) struct Met {
+    edition: u32,
     control: u32,
     lanes: u32,
     speed: u32,
@@ -54,13 +66,13 @@ pub(crate) struct Met {
 }
 
 impl Met {
-    fn parse(t: &mut Taker<'_>) -> Option<Met> {
-        let control = within(t.one()?, 0, 4)?;
-        let (lanes, speed) = (t.one()?, t.one()?);
-        if control < 2 {
+    fn parse(t: &mut Taker<'_>, edition: u32) -> Option<Met> {
+        let (control, lanes, speed) = (t.one()?, t.one()?, t.one()?);
+        if uncrossed(edition, control).is_some() {
             within(lanes, 0, 0)?;
             within(speed, 0, 0)?;
         } else {
+            within(control, 2, 4)?;
             within(lanes, 1, 12)?;
             within(speed, 5, 85)?;
         }
@@ -74,6 +86,7 @@ impl Met {
             within(turn_speed, 5, 85)?;
         }
         Some(Met {
+            edition,
             control,
             lanes,
             speed,
@@ -84,10 +97,10 @@ impl Met {
     }
 
     pub fn crossing(&self) -> u8 {
-        if self.control < 2 {
-            return 1;
+        match uncrossed(self.edition, self.control) {
+            Some(level) => level,
+            None => CROSSED[self.control as usize - 2][band(self.speed)][self.lanes as usize],
         }
-        CROSSED[self.control as usize - 2][band(self.speed)][self.lanes as usize]
     }
 
     pub fn turn_lane(&self) -> u8 {
@@ -117,6 +130,7 @@ impl Met {
 /// A segment.
 #[derive(Clone, Debug)]
 pub(crate) struct Street {
+    edition: u32,
     /// Node and leg of A, of B.
     pub ends: [(u32, u32); 2],
     pub length: u32,
@@ -132,7 +146,8 @@ pub(crate) struct Street {
 
 impl Street {
     /// Fields after the kind, before the check.
-    pub fn parse(bytes: &[u8], nodes: u32) -> Option<Street> {
+    pub fn parse(bytes: &[u8], head: Head) -> Option<Street> {
+        let Head { edition, nodes, .. } = head;
         let mut t = Taker(bytes.iter());
         let a = (within(t.two()?, 0, nodes - 1)?, within(t.one()?, 0, 7)?);
         let b = (within(t.two()?, 0, nodes - 1)?, within(t.one()?, 0, 7)?);
@@ -146,11 +161,12 @@ impl Street {
             within(lanes, 1, 12)?;
             within(speed, 5, 85)?;
             within(reach, 0, if form == 0 { 0 } else { 60 })?;
-            within(marks, 0, 1 + 2 + 4 + 8)?;
+            within(marks, 0, MOST_MARKS[edition as usize - 1])?;
         }
-        let at_b = Met::parse(&mut t)?;
-        let at_a = Met::parse(&mut t)?;
+        let at_b = Met::parse(&mut t, edition)?;
+        let at_a = Met::parse(&mut t, edition)?;
         Some(Street {
+            edition,
             ends: [a, b],
             length,
             form,
@@ -170,31 +186,55 @@ impl Street {
 
     /// Level and governing measure.
     pub fn judge(&self) -> (u8, u8) {
-        match self.form {
-            0 => (self.mixed(), 5),
+        let with_bike_lane = match self.form {
+            0 => return (self.mixed(self.lanes), 5),
             1 => governing(self.beside_parking()),
             2 => governing(self.without_parking()),
-            _ => (1, 6),
+            _ => return (1, 6),
+        };
+        if self.edition == 1 {
+            return with_bike_lane;
+        }
+        // Note 5: "takes the mixed level when that is lower, and measure 5
+        // then governs".
+        let directions = if self.ways == 3 { 2 } else { 1 };
+        let mixed = self.mixed(directions * self.lanes);
+        if mixed < with_bike_lane.0 {
+            (mixed, 5)
+        } else {
+            with_bike_lane
         }
     }
 
-    fn mixed(&self) -> u8 {
+    /// The level of riding among the traffic of so many through lanes.
+    fn mixed(&self, lanes: u32) -> u8 {
         let band = band(self.speed);
-        if self.lanes <= 2 && (self.marked(2) || !self.marked(1)) {
+        if lanes <= 2 && (self.marked(2) || !self.marked(1)) {
             MIXED_CALM[band]
-        } else if self.lanes <= 3 {
+        } else if lanes <= 3 {
             MIXED[0][band]
-        } else if self.lanes <= 5 {
+        } else if lanes <= 5 {
             MIXED[1][band]
         } else {
             MIXED[2][band]
         }
     }
 
+    /// The reach in half feet, as measure 2 counts it. Note 5: 4 more "when
+    /// lanes are 1, ways are 3 and that mark is set", a central two-way turn
+    /// lane, which no street of edition 01 has.
+    fn counted_reach(&self) -> u32 {
+        match (self.lanes, self.ways, self.marked(16)) {
+            (1, 3, true) => self.reach + 4,
+            _ => self.reach,
+        }
+    }
+
     fn beside_parking(&self) -> [u8; 4] {
-        let reach = if self.reach >= 30 {
+        let counted = self.counted_reach();
+        let reach = if counted >= 30 {
             1
-        } else if self.reach >= 28 {
+        } else if counted >= 28 {
             2
         } else {
             self.narrow()
@@ -228,7 +268,7 @@ impl Street {
         } else {
             3
         };
-        let reach = if self.reach >= 12 { 1 } else { 2 };
+        let reach = if self.counted_reach() >= 12 { 1 } else { 2 };
         [lanes, reach, LANE_SPEED[band(self.speed)], self.blocked()]
     }
 

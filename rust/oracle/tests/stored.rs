@@ -3,7 +3,7 @@
 use oracle::{levels, refused, route, routes};
 use std::fs;
 use std::path::{Path, PathBuf};
-use towns::town::linden;
+use towns::town::{linden, westerby};
 
 /// A file or folder of the repository.
 fn stored(path: &str) -> PathBuf {
@@ -105,5 +105,32 @@ fn narrow_parking_lanes_shorten_a_route() {
             before,
             "{to} {tolerance}"
         );
+    }
+}
+
+/// By hand: `westerby` is of edition 02 and `westerby-01` the same town of
+/// edition 01. Within a tolerance one has another route, or none, and so has the
+/// other.
+#[test]
+fn the_edition_decides_a_route_and_a_none() {
+    let text = |name: &str| fs::read(stored("tests/routes").join(name)).expect("a text");
+    let (newer, older) = (text("westerby.in"), text("westerby-01.in"));
+    let described = fs::read(stored("towns/westerby.txt")).expect("a text");
+    assert_eq!((&newer, &described), (&westerby().text(), &newer));
+    assert_eq!(newer[15..], older[15..]);
+    for (from, to, tolerance, now, before) in [
+        (0, 2, 1, "found 1200\n", "found 1200\n"),
+        (0, 2, 2, "found 800\n", "found 1200\n"),
+        (0, 2, 3, "found 800\n", "found 800\n"),
+        (0, 4, 2, "found 1100\n", "none\n"),
+        (2, 5, 2, "none\n", "found 650\n"),
+        (2, 5, 3, "none\n", "found 650\n"),
+        (2, 5, 4, "found 650\n", "found 650\n"),
+        (2, 7, 1, "found 700\n", "found 700\n"),
+        (2, 9, 2, "none\n", "none\n"),
+    ] {
+        let asked = format!("{from} {to} {tolerance}");
+        assert_eq!(route(&newer, from, to, Some(tolerance)), now, "{asked}");
+        assert_eq!(route(&older, from, to, Some(tolerance)), before, "{asked}");
     }
 }

@@ -94,7 +94,7 @@ impl Command {
                 "Says edition, nodes and segments; or the refusal's number, its line and what to mend there.\nThe refused line of a network text stands below that, with a mark under what is wrong, and its fields where one is against the rules; levels, route, reach, nearest and draw show it too.\n--json prints the answer for scripts.\n"
             }
             Command::Levels => {
-                "A row for each segment: street, ends, feet, ways, level 1 to 4, and the measure that decided it.\n--json prints the answer for scripts.\n"
+                "The edition, by whose rules the levels are, and a row for each segment: street, ends, feet, ways, level 1 to 4, and the measure that decided it.\n--json prints the answer for scripts.\n"
             }
             Command::Route => {
                 "FROM and TO are nodes, by number or, with a table, by place. TOLERANCE is 1, 2, 3 or 4; least asks for the smallest that has a route.\nThe answer none is proved: no route within the tolerance exists. It then says which tolerance has one.\n--json prints the answer for scripts.\n"

@@ -81,7 +81,7 @@ impl Corner {
         let control = self.surveyed(CONTROL);
         match control {
             0 => "nothing crossed".into(),
-            1 => "signal".into(),
+            1 | 5 => name(&CONTROLS, control).into(),
             _ => {
                 let (lanes, speed) = (self.surveyed(CROSSED), self.surveyed(CROSSED_SPEED));
                 let lanes = if lanes == 1 {

@@ -7,7 +7,7 @@
 
 use crate::cursor::Cursor;
 use crate::fault::Fault;
-use crate::segment::{self, Field, Segment};
+use crate::segment::{self, EDITIONS, Field, Head, Segment};
 use crate::segment::{A_LEG, A_NODE, B_LEG, B_NODE};
 use crate::segment::{HEAD_BYTES, HEAD_KIND, SEGMENT_BYTES, SEGMENT_KIND};
 use splicereel::{MAX_NODES, MAX_SEGMENTS, Network, ReadRefusal, Refusal};
@@ -244,8 +244,9 @@ fn head_field(line: &Line<'_>) -> Option<Found> {
     let [_, edition, nodes, segments, _] = &line.fields()[..] else {
         return None;
     };
-    if edition.number != 1 {
-        let words = format!("edition {:02X} is not known: 01 is", edition.number);
+    if !EDITIONS.contains(&edition.number) {
+        let known = EDITIONS.map(|known| format!("{known:02X}")).join(" and ");
+        let words = format!("edition {:02X} is not known: {known} are", edition.number);
         return Some(Found::at(edition.digits.clone(), words));
     }
     let fields = [nodes, segments];
@@ -265,27 +266,27 @@ pub fn counts([nodes, segments]: [usize; 2]) -> Option<(usize, String)> {
     })
 }
 
-/// Nodes and segments that the head counts.
-fn head(text: &[u8]) -> Option<(u32, u32)> {
-    match &segment::head_fields(&frame(lines(text).next()?))[..] {
-        [_, _, nodes, segments, _] => Some((nodes.number, segments.number)),
-        _ => None,
-    }
+fn head(text: &[u8]) -> Option<Head> {
+    Some(Head::decode(&frame(lines(text).next()?)))
 }
 
 fn segment_field(line: &Line<'_>) -> Option<Found> {
-    let (nodes, _) = head(line.text)?;
+    let head = head(line.text)?;
     let segment = Segment::decode(&frame(line.part));
-    let rule = segment::broken(&segment, nodes)?;
+    let rule = segment::broken(&segment, head)?;
     let digits = segment::digits(rule.field..=rule.field);
     let (first, last) = (digits.start + 1, digits.end);
     let words = rule.words(segment.get(rule.field));
-    let words = format!("{words} (digits {first} to {last})");
+    let later = segment::later(&segment, head, rule.field);
+    let later = later.map_or_else(String::new, |(edition, range)| {
+        format!("; edition {edition:02X} has {}", segment::span(&range))
+    });
+    let words = format!("{words} (digits {first} to {last}){later}");
     Some(Found::at(digits, words))
 }
 
 fn wrong_count(line: &Line<'_>) -> Option<Found> {
-    let (_, segments) = head(line.text)?;
+    let Head { segments, .. } = head(line.text)?;
     let words = match line.is_there() {
         true => format!("one segment more than the {segments} that the head counts"),
         false => format!(
@@ -315,7 +316,8 @@ fn leg_taken(line: &Line<'_>) -> Option<Found> {
 mod tests {
     use super::*;
     use crate::segment::{AT_A, AT_B, CONTROL, CROSSED, CROSSED_SPEED};
-    use crate::segment::{FORM, LANES, LENGTH, SPEED, TURN, TURN_LENGTH, TURN_SPEED, WAYS};
+    use crate::segment::{FORM, LANES, LENGTH, MARKS, SPEED, WAYS};
+    use crate::segment::{TURN, TURN_LENGTH, TURN_SPEED};
 
     /// The fault of a text that Read refuses with this number.
     fn refused(number: u32, text: &[u8]) -> Fault {
@@ -333,16 +335,23 @@ mod tests {
         digits.chain(["\n".into()]).collect()
     }
 
-    /// A text of two nodes and these segments.
-    fn text(segments: &[Segment]) -> Vec<u8> {
-        let mut head = vec![HEAD_KIND, 1, 0, 2, 0, segments.len() as u8];
-        head.push(segment::check(&head));
+    /// A text of an edition, with two nodes and these segments.
+    fn text_of(edition: u32, segments: &[Segment]) -> Vec<u8> {
+        let head = Head {
+            edition,
+            nodes: 2,
+            segments: segments.len() as u32,
+        };
         let lines = segments.iter().map(|segment| line(&segment.frame()));
-        [line(&head)]
+        [line(&head.frame())]
             .into_iter()
             .chain(lines)
             .collect::<String>()
             .into()
+    }
+
+    fn text(segments: &[Segment]) -> Vec<u8> {
+        text_of(1, segments)
     }
 
     /// A street in mixed traffic with a crossing and a turn lane at each end.
@@ -411,7 +420,8 @@ mod tests {
     #[test]
     fn wrong_fields_of_a_head_are_marked() {
         for (head, place, due) in [
-            (b"010200010000FC\n", 1, 2..4),
+            (b"010400010000FA\n", 1, 2..4),
+            (b"010200000000FD\n", 2, 4..8),
             (b"010100000000FE\n", 2, 4..8),
             (b"010103E9000012\n", 2, 4..8),
             (b"0101000103E911\n", 3, 8..12),
@@ -429,22 +439,127 @@ mod tests {
     /// Only the check and the wrong field of these lines have a digit F.
     #[test]
     fn each_wrong_field_of_a_segment_is_marked() {
-        assert!(Network::read(&text(&[street()])).is_ok());
-        for field in 0..=AT_A + TURN_SPEED {
-            let mut wrong = street();
-            wrong.set(field, u32::MAX);
-            let fault = refused(4, &text(&[wrong]));
-            let name = segment::name(field);
-            assert!(fault.words.starts_with(&format!("{name} is ")), "{name}");
-            let mark = mark(&fault).expect(name);
-            let cursor = fault.cursor.expect("a line");
-            let digits = (0..58).filter(|place| cursor.part[*place] == b'F');
-            assert!(mark.clone().eq(digits), "{name}");
-            let fields = cursor.fields.expect("fields");
-            let marked = fields.iter().filter(|field| field.digits == mark);
-            assert!(marked.map(|field| field.name).eq([name]));
-            assert_eq!((fields[0].name, fields[24].name), ("kind", "check"));
-            assert_eq!((fields[24].digits.end, fields.len()), (60, 25));
+        for edition in EDITIONS {
+            assert!(Network::read(&text_of(edition, &[street()])).is_ok());
+            (0..=AT_A + TURN_SPEED).for_each(|field| is_marked(edition, field));
+        }
+    }
+
+    fn is_marked(edition: u32, field: usize) {
+        let mut wrong = street();
+        wrong.set(field, u32::MAX);
+        let fault = refused(4, &text_of(edition, &[wrong]));
+        let name = segment::name(field);
+        assert!(fault.words.starts_with(&format!("{name} is ")), "{name}");
+        let mark = mark(&fault).expect(name);
+        let cursor = fault.cursor.expect("a line");
+        let digits = (0..58).filter(|place| cursor.part[*place] == b'F');
+        assert!(mark.clone().eq(digits), "{name}");
+        let fields = cursor.fields.expect("fields");
+        let marked = fields.iter().filter(|field| field.digits == mark);
+        assert!(marked.map(|field| field.name).eq([name]));
+        assert_eq!((fields[0].name, fields[24].name), ("kind", "check"));
+        assert_eq!((fields[24].digits.end, fields.len()), (60, 25));
+    }
+
+    /// The street with another number in a field, under each edition: either
+    /// Read takes it, or the words end so.
+    fn ends(field: usize, number: u32, due: [&str; 2]) {
+        let mut street = street();
+        street.set(field, number);
+        if field == AT_B + CONTROL {
+            street.set(AT_B + CROSSED, 0);
+            street.set(AT_B + CROSSED_SPEED, 0);
+        }
+        for (edition, due) in EDITIONS.into_iter().zip(due) {
+            let text = text_of(edition, &[street.clone()]);
+            match due {
+                "" => assert!(Network::read(&text).is_ok(), "{number}"),
+                _ => assert_eq!(refused(4, &text).words, due),
+            }
+        }
+    }
+
+    #[test]
+    fn what_a_later_edition_has_is_said() {
+        let marks = |number: u32| {
+            let words = format!("marks is {number} and must be 0 to 15 in mixed traffic");
+            words + " (digits 29 to 30); edition 02 has 0 to 31"
+        };
+        ends(MARKS, 15, ["", ""]);
+        ends(MARKS, 16, [&marks(16), ""]);
+        ends(MARKS, 31, [&marks(31), ""]);
+        let beyond = |most: u32| {
+            format!("marks is 32 and must be 0 to {most} in mixed traffic (digits 29 to 30)")
+        };
+        ends(MARKS, 32, [&beyond(15), &beyond(31)]);
+        let control = |number: u32, most: u32| {
+            format!("control at B is {number} and must be 0 to {most} (digits 31 to 32)")
+        };
+        let later = control(5, 4) + "; edition 02 has 0 to 5";
+        ends(AT_B + CONTROL, 5, [&later, ""]);
+        ends(AT_B + CONTROL, 6, [&control(6, 4), &control(6, 5)]);
+    }
+
+    /// A street of a form, with a control at B.
+    fn street_of(form: u32, control: u32) -> Segment {
+        let mut segment = street();
+        segment.set(FORM, form);
+        segment.set(AT_B + CONTROL, control);
+        let traffic = [LANES, SPEED].into_iter().filter(|_| form == 3);
+        let crossed = [AT_B + CROSSED, AT_B + CROSSED_SPEED].into_iter();
+        let crossed = crossed.filter(|_| [0, 1, 5].contains(&control));
+        traffic
+            .chain(crossed)
+            .for_each(|field| segment.set(field, 0));
+        segment
+    }
+
+    /// Whether Read refuses the segment with 4, and so does a rule.
+    fn is_wrong(edition: u32, segment: &Segment) -> bool {
+        let head = Head {
+            edition,
+            nodes: 2,
+            segments: 1,
+        };
+        let text = text_of(edition, std::slice::from_ref(segment));
+        let refused = Network::refused_line(&text);
+        let wrong = refused.is_some_and(|line| line.refusal == Refusal::WrongField);
+        let broken = segment::broken(segment, head).is_some();
+        assert_eq!(broken, wrong, "{edition} {segment:?}");
+        wrong
+    }
+
+    /// Whatever number stands in a field, under either edition.
+    #[test]
+    fn rules_are_reads() {
+        let numbers = (0..=37).chain(59..=61).chain(84..=86).chain([128, 255]);
+        let numbers: Vec<u32> = numbers.collect();
+        let met = (0..4).flat_map(|form| (0..6).map(move |control| street_of(form, control)));
+        let mut wrong = [0; 2];
+        for (edition, street) in met.flat_map(|street| EDITIONS.map(|it| (it, street.clone()))) {
+            for field in 0..=AT_A + TURN_SPEED {
+                for number in &numbers {
+                    let mut segment = street.clone();
+                    segment.set(field, *number);
+                    wrong[usize::from(is_wrong(edition, &segment))] += 1;
+                }
+            }
+        }
+        assert!(wrong.into_iter().all(|count| count > 10_000), "{wrong:?}");
+    }
+
+    #[test]
+    fn an_improved_signal_crosses_no_lanes() {
+        for (field, name) in [(CROSSED, "lanes"), (CROSSED_SPEED, "speed")] {
+            let mut street = street();
+            for (field, number) in [(CONTROL, 5), (CROSSED, 0), (CROSSED_SPEED, 0)] {
+                street.set(AT_A + field, number);
+            }
+            street.set(AT_A + field, 9);
+            let words = refused(4, &text_of(2, &[street])).words;
+            let due = format!("{name} crossed at A is 9 and must be 0 at an improved signal");
+            assert!(words.starts_with(&due), "{words}");
         }
     }
 

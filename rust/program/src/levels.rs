@@ -1,4 +1,5 @@
-//! `splicereel levels`: a row for each segment.
+//! `splicereel levels`: the edition, whose rules the levels are by, and a row
+//! for each segment.
 
 use crate::fault::Fault;
 use crate::json::Json;
@@ -31,7 +32,8 @@ pub fn page(town: &Town) -> Result<String, Fault> {
             judged.measure.to_string(),
         ]);
     }
-    Ok(page.lines())
+    let edition = town.network.edition();
+    Ok(format!("Edition  {edition:02}\n\n{}", page.lines()))
 }
 
 /// The rows for scripts.

@@ -106,9 +106,19 @@ fn cell(words: &str) -> Cow<'_, str> {
 }
 
 impl<'t> Table<'t> {
-    /// The rows below the dashes, each with as many cells as the heading, and
-    /// numbered from 0 in the first.
+    /// The rows below the dashes, each with as many cells as the heading.
+    pub fn rows(&self) -> Result<Vec<Row<'t>>, Fault> {
+        self.below()?.collect()
+    }
+
+    /// The same rows, numbered from 0 in the first cell.
     pub fn numbered(&self) -> Result<Vec<Row<'t>>, Fault> {
+        let rows = self.below()?.enumerate();
+        rows.map(|(number, row)| in_order(number, row?)).collect()
+    }
+
+    /// What stands below the dashes, row by row.
+    fn below(&self) -> Result<impl Iterator<Item = Result<Row<'t>, Fault>>, Fault> {
         let mut lines = self.lines.iter().map(|&(line, text)| row(line, text));
         let dashes =
             |cell: &Cow<'_, str>| !cell.is_empty() && cell.chars().all(|sign| "-:".contains(sign));
@@ -120,26 +130,28 @@ impl<'t> Table<'t> {
             let what = "a row of dashes, as in |---|---|, is due below this heading";
             return Err(Fault::at(self.heading.line, what));
         }
-        let rows = lines
-            .enumerate()
-            .map(|(number, row)| self.in_order(number, row?));
-        rows.collect()
+        Ok(lines.map(|row| self.whole(row?)))
     }
 
-    /// The row, if it is one of this table's with that number.
-    fn in_order(&self, number: usize, row: Row<'t>) -> Result<Row<'t>, Fault> {
+    /// The row, if it has a cell for each column.
+    fn whole(&self, row: Row<'t>) -> Result<Row<'t>, Fault> {
         let (columns, cells) = (self.heading.cells.len(), row.cells.len());
         if cells != columns {
             let what = format!("{cells} cells, and the heading has {columns}");
             return Err(Fault::at(row.line, what));
         }
-        if row.cells[0] != number.to_string() {
-            let what = format!(
-                "the row is numbered {}, and {number} is due",
-                quoted(&row.cells[0])
-            );
-            return Err(Fault::at(row.line, what));
-        }
         Ok(row)
     }
+}
+
+/// The row, if it has that number.
+fn in_order(number: usize, row: Row<'_>) -> Result<Row<'_>, Fault> {
+    if row.cells[0] != number.to_string() {
+        let what = format!(
+            "the row is numbered {}, and {number} is due",
+            quoted(&row.cells[0])
+        );
+        return Err(Fault::at(row.line, what));
+    }
+    Ok(row)
 }

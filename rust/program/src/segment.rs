@@ -67,6 +67,9 @@ pub const SEGMENT_BYTES: usize = 30;
 pub const HEAD_KIND: u8 = 1;
 pub const SEGMENT_KIND: u8 = 2;
 
+/// The editions of the format that are known.
+pub const EDITIONS: [u32; 2] = [1, 2];
+
 /// A field's name.
 pub fn name(field: usize) -> &'static str {
     LAYOUT[field].0
@@ -117,6 +120,36 @@ pub fn digits(together: RangeInclusive<usize>) -> Range<usize> {
     fields[1 + together.start()].digits.start..fields[1 + together.end()].digits.end
 }
 
+/// A head as its fields' numbers.
+#[derive(Clone, Copy, Debug, PartialEq, Eq)]
+pub struct Head {
+    pub edition: u32,
+    pub nodes: u32,
+    pub segments: u32,
+}
+
+impl Head {
+    /// The fields of a frame; those past its end are 0.
+    pub fn decode(frame: &[u8]) -> Head {
+        let fields = head_fields(frame);
+        // The kind stands before them.
+        let number = |field: usize| fields.get(1 + field).map_or(0, |field| field.number);
+        let [edition, nodes, segments] = [0, 1, 2].map(number);
+        Head {
+            edition,
+            nodes,
+            segments,
+        }
+    }
+
+    /// The frame with these fields, its check computed; numbers that are too
+    /// large as in [`Segment::frame`].
+    pub fn frame(&self) -> Vec<u8> {
+        let numbers = [self.edition, self.nodes, self.segments];
+        frame(HEAD_KIND, &HEAD_LAYOUT, &numbers)
+    }
+}
+
 /// A segment as its fields' numbers.
 #[derive(Clone, Debug, Default, PartialEq, Eq)]
 pub struct Segment([u32; LAYOUT.len()]);
@@ -137,13 +170,7 @@ impl Segment {
     /// bytes do not hold becomes the greatest that they do, which no field may
     /// have.
     pub fn frame(&self) -> Vec<u8> {
-        let mut frame = vec![SEGMENT_KIND];
-        for ((_, width), number) in LAYOUT.iter().zip(self.0) {
-            let most = u32::MAX >> (32 - 8 * width);
-            frame.extend(&number.min(most).to_be_bytes()[4 - width..]);
-        }
-        frame.push(check(&frame));
-        frame
+        frame(SEGMENT_KIND, &LAYOUT, &self.0)
     }
 
     /// The number in a field.
@@ -162,6 +189,16 @@ impl Segment {
     }
 }
 
+fn frame(kind: u8, layout: &[(&str, usize)], numbers: &[u32]) -> Vec<u8> {
+    let mut frame = vec![kind];
+    for ((_, width), number) in layout.iter().zip(numbers) {
+        let most = u32::MAX >> (32 - 8 * width);
+        frame.extend(&(*number).min(most).to_be_bytes()[4 - width..]);
+    }
+    frame.push(check(&frame));
+    frame
+}
+
 /// The byte that makes a frame's bytes sum to 0 modulo 256.
 pub fn check(body: &[u8]) -> u8 {
     body.iter().fold(0u8, |sum, byte| sum.wrapping_sub(*byte))
@@ -178,19 +215,52 @@ pub struct Rule {
     pub when: &'static str,
 }
 
-/// The first rule that a segment of a town with so many nodes breaks, in the
-/// order of the fields.
-pub fn broken(segment: &Segment, nodes: u32) -> Option<Rule> {
+/// The first rule that a segment of a town with this head breaks, in the order
+/// of the fields.
+pub fn broken(segment: &Segment, head: Head) -> Option<Rule> {
+    let mut rules = rules(segment, head).into_iter();
+    rules.find(|rule| !rule.is_kept(segment))
+}
+
+/// The first later edition in which a field may have the number that breaks
+/// its rule, with what may stand there.
+pub fn later(segment: &Segment, head: Head, field: usize) -> Option<(u32, RangeInclusive<u32>)> {
+    let editions = EDITIONS.into_iter().filter(|later| *later > head.edition);
+    let mut kept = editions.filter_map(|edition| {
+        let rules = rules(segment, Head { edition, ..head });
+        let rule = rules.into_iter().find(|rule| rule.field == field)?;
+        rule.is_kept(segment).then_some((edition, rule.range))
+    });
+    kept.next()
+}
+
+/// The rules of every field, in their order.
+fn rules(segment: &Segment, head: Head) -> Vec<Rule> {
+    let greatest = Greatest::of(head.edition);
     let rules = [
-        ends(nodes),
-        street(segment.get(FORM)),
-        approach(segment, AT_B),
-        approach(segment, AT_A),
+        ends(head.nodes),
+        street(segment.get(FORM), greatest.marks),
+        approach(segment, AT_B, greatest.control),
+        approach(segment, AT_A, greatest.control),
     ];
-    rules
-        .into_iter()
-        .flatten()
-        .find(|rule| !rule.range.contains(&segment.get(rule.field)))
+    rules.into_iter().flatten().collect()
+}
+
+/// The greatest numbers that an edition gives a meaning.
+struct Greatest {
+    /// The sum of all marks.
+    marks: u32,
+    control: u32,
+}
+
+impl Greatest {
+    fn of(edition: u32) -> Greatest {
+        let (marks, control) = match edition {
+            1 => (15, 4),
+            _ => (31, 5),
+        };
+        Greatest { marks, control }
+    }
 }
 
 fn rule(field: usize, range: RangeInclusive<u32>, when: &'static str) -> Rule {
@@ -211,10 +281,10 @@ fn ends(nodes: u32) -> Vec<Rule> {
 }
 
 /// What the form lets stand in the fields of the street itself.
-fn street(form: u32) -> Vec<Rule> {
+fn street(form: u32, most: u32) -> Vec<Rule> {
     let (lanes, speed, reach, marks, when) = match form {
-        0 => (1..=12, 5..=85, 0..=0, 0..=15, " in mixed traffic"),
-        1 | 2 => (1..=12, 5..=85, 0..=60, 0..=15, " beside a bike lane"),
+        0 => (1..=12, 5..=85, 0..=0, 0..=most, " in mixed traffic"),
+        1 | 2 => (1..=12, 5..=85, 0..=60, 0..=most, " beside a bike lane"),
         _ => (0..=0, 0..=0, 0..=0, 0..=0, " on a separate path"),
     };
     vec![
@@ -225,10 +295,11 @@ fn street(form: u32) -> Vec<Rule> {
     ]
 }
 
-fn approach(segment: &Segment, at: usize) -> Vec<Rule> {
+fn approach(segment: &Segment, at: usize, most: u32) -> Vec<Rule> {
     let (lanes, speed, crossed) = match segment.get(at + CONTROL) {
         0 => (0..=0, 0..=0, " where nothing is crossed"),
         1 => (0..=0, 0..=0, " at a signal"),
+        5 => (0..=0, 0..=0, " at an improved signal"),
         _ => (1..=12, 5..=85, " where lanes are crossed"),
     };
     let (length, turning, turn) = match segment.get(at + TURN) {
@@ -236,7 +307,7 @@ fn approach(segment: &Segment, at: usize) -> Vec<Rule> {
         _ => (1..=2_000, 5..=85, " with a turn lane"),
     };
     vec![
-        rule(at + CONTROL, 0..=4, ""),
+        rule(at + CONTROL, 0..=most, ""),
         rule(at + CROSSED, lanes, crossed),
         rule(at + CROSSED_SPEED, speed, crossed),
         rule(at + TURN, 0..=3, ""),
@@ -246,19 +317,26 @@ fn approach(segment: &Segment, at: usize) -> Vec<Rule> {
 }
 
 impl Rule {
+    fn is_kept(&self, segment: &Segment) -> bool {
+        self.range.contains(&segment.get(self.field))
+    }
+
     /// `lanes is 0 and must be 1 to 12 in mixed traffic`.
     pub fn words(&self, number: u32) -> String {
-        let (low, high) = (self.range.start(), self.range.end());
-        let due = if low == high {
-            low.to_string()
-        } else {
-            format!("{low} to {high}")
-        };
+        let (field, when) = (name(self.field), self.when);
         format!(
-            "{} is {number} and must be {due}{}",
-            name(self.field),
-            self.when
+            "{field} is {number} and must be {}{when}",
+            span(&self.range)
         )
+    }
+}
+
+/// `1 to 12`, or the one number.
+pub fn span(range: &RangeInclusive<u32>) -> String {
+    let (low, high) = (range.start(), range.end());
+    match low == high {
+        true => low.to_string(),
+        false => format!("{low} to {high}"),
     }
 }
 

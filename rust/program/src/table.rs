@@ -4,7 +4,7 @@ use crate::explain;
 use crate::fault::{Fault, quoted};
 use crate::markdown::{self, Row, Table};
 use crate::near::meant;
-use crate::segment::{self, Segment};
+use crate::segment::{self, EDITIONS, Head, Segment};
 use crate::segment::{
     A_LEG, A_NODE, B_LEG, B_NODE, FORM, LANES, LENGTH, MARKS, REACH, SPEED, WAYS,
 };
@@ -12,6 +12,7 @@ use crate::segment::{AT_A, AT_B, CONTROL, CROSSED, CROSSED_SPEED, TURN, TURN_LEN
 use splicereel::{Network, ReadRefusal, Refusal};
 use std::borrow::Cow;
 
+const EDITION: &str = "edition";
 const NODES: [&str; 4] = ["node", "place", "x", "y"];
 const SEGMENTS: [&str; 15] = [
     "segment", "street", "A", "A leg", "B", "B leg", "feet", "form", "ways", "lanes", "mph",
@@ -20,9 +21,23 @@ const SEGMENTS: [&str; 15] = [
 
 const FORMS: [&str; 4] = ["mixed", "beside parking", "bike lane", "path"];
 const WAYS_OPEN: [&str; 3] = ["A to B", "B to A", "both"];
-/// Each mark is a bit, the first the lowest.
-const MARKED: [&str; 4] = ["centreline", "residential", "median", "blocked"];
-pub const CONTROLS: [&str; 5] = ["nothing", "signal", "no island", "island", "one-way"];
+/// Each mark is a bit, the first the lowest. Edition 01 lacks the last.
+const MARKED: [&str; 5] = [
+    "centreline",
+    "residential",
+    "median",
+    "blocked",
+    "turn lane",
+];
+/// Edition 01 lacks the last.
+pub const CONTROLS: [&str; 6] = [
+    "nothing",
+    "signal",
+    "no island",
+    "island",
+    "one-way",
+    "improved signal",
+];
 pub const TURNS: [&str; 4] = ["none", "straight", "shifts left", "no bike lane"];
 
 /// The most feet from the middle of a map.
@@ -49,22 +64,22 @@ pub fn read(file: &[u8]) -> Result<Described, Fault> {
     heading(nodes, &NODES[..if with_map { 4 } else { 2 }])?;
     let segments = the_table(&tables, "segment")?;
     heading(segments, &SEGMENTS)?;
+    let edition = edition(&tables)?;
     let (node_rows, segment_rows) = (nodes.numbered()?, segments.numbered()?);
     let map = with_map.then(|| node_rows.iter().map(place).collect());
     let streets = segment_rows
         .iter()
-        .map(street)
+        .map(|row| street(row, edition))
         .collect::<Result<Vec<_>, Fault>>()?;
-    let text = text(node_rows.len(), &streets);
-    let network = Network::read(&text).map_err(|refused| {
-        let made = Made {
-            headings: [nodes.heading.line, segments.heading.line],
-            places: &node_rows,
-            rows: &segment_rows,
-            streets: &streets,
-        };
-        made.fault(refused)
-    })?;
+    let made = Made {
+        edition,
+        headings: [nodes.heading.line, segments.heading.line],
+        places: &node_rows,
+        rows: &segment_rows,
+        streets: &streets,
+    };
+    let text = made.text();
+    let network = Network::read(&text).map_err(|refused| made.fault(refused))?;
     let second = |rows: &[Row<'_>]| rows.iter().map(|row| row.cells[1].to_string()).collect();
     Ok(Described {
         name: markdown::title(file).map(str::to_string),
@@ -91,31 +106,68 @@ fn utf8(file: &[u8]) -> Result<&str, Fault> {
 
 /// The one table whose heading begins with this word.
 fn the_table<'a, 't>(tables: &'a [Table<'t>], first: &str) -> Result<&'a Table<'t>, Fault> {
+    if let Some(table) = only_table(tables, first, "its rows belong into the one")? {
+        return Ok(table);
+    }
+    let words =
+        format!("there is no table of {first}s: a heading that begins with | {first} | is due");
+    Err(match tables.iter().find(|table| is_near(table, first)) {
+        Some(table) => Fault::at(table.heading.line, words),
+        None => Fault::new(words),
+    })
+}
+
+/// The table whose heading begins with this word, if there is one; `instead`
+/// says what is wrong with a second.
+fn only_table<'a, 't>(
+    tables: &'a [Table<'t>],
+    first: &str,
+    instead: &str,
+) -> Result<Option<&'a Table<'t>>, Fault> {
     let mut named = tables
         .iter()
         .filter(|table| table.heading.cells[0] == first);
     match (named.next(), named.next()) {
-        (Some(table), None) => Ok(table),
         (Some(one), Some(other)) => {
-            let words = format!(
-                "a second table of {first}s: its rows belong into the one at line {}",
-                one.heading.line
-            );
+            let line = one.heading.line;
+            let words = format!("a second table of {first}s: {instead} at line {line}");
             Err(Fault::at(other.heading.line, words))
         }
-        (None, _) => {
-            let words = format!(
-                "there is no table of {first}s: a heading that begins with | {first} | is due"
-            );
-            let near = tables.iter().find(|table| {
-                let cell = &*table.heading.cells[0];
-                !meant(cell, [first]).is_empty()
-            });
-            Err(match near {
-                Some(table) => Fault::at(table.heading.line, words),
-                None => Fault::new(words),
+        (table, _) => Ok(table),
+    }
+}
+
+/// Whether a table's heading could mean this word.
+fn is_near(table: &Table<'_>, first: &str) -> bool {
+    !meant(&table.heading.cells[0], [first]).is_empty()
+}
+
+/// The town's edition: 01 where no table names one. A table that seems to, and
+/// would be passed over, is a fault: no edition is lost in silence.
+fn edition(tables: &[Table<'_>]) -> Result<u32, Fault> {
+    let Some(table) = only_table(tables, EDITION, "the edition stands in the one")? else {
+        let could = |table: &&Table<'_>| table.heading.cells.len() == 1 && is_near(table, EDITION);
+        return match tables.iter().find(could) {
+            Some(table) => heading(table, &[EDITION]).map(|()| 1),
+            None => Ok(1),
+        };
+    };
+    heading(table, &[EDITION])?;
+    let known = EDITIONS.map(|known| format!("{known:02}"));
+    match &table.rows()?[..] {
+        [] => {
+            let words = format!("a row is due in this table: {}", known.join(" or "));
+            Err(Fault::at(table.heading.line, words))
+        }
+        [row] => {
+            let number = whole(&row.cells[0]).filter(|number| EDITIONS.contains(number));
+            number.ok_or_else(|| {
+                let (cell, known) = (quoted(&row.cells[0]), known.join(", "));
+                let words = format!("{EDITION} is {cell}, and must be one of: {known}");
+                Fault::at(row.line, words)
             })
         }
+        [_, second, ..] => Err(Fault::at(second.line, "a second edition: a town has one")),
     }
 }
 
@@ -179,11 +231,11 @@ fn whole(cell: &str) -> Option<u32> {
 }
 
 /// The fields of a segment's row.
-fn street(row: &Row<'_>) -> Result<Segment, Fault> {
-    fields(&row.cells).map_err(|words| Fault::at(row.line, words))
+fn street(row: &Row<'_>, edition: u32) -> Result<Segment, Fault> {
+    fields(&row.cells, edition).map_err(|words| Fault::at(row.line, words))
 }
 
-fn fields(cells: &[Cow<'_, str>]) -> Result<Segment, String> {
+fn fields(cells: &[Cow<'_, str>], edition: u32) -> Result<Segment, String> {
     let mut segment = Segment::default();
     let due = [
         (A_NODE, 2),
@@ -200,9 +252,13 @@ fn fields(cells: &[Cow<'_, str>]) -> Result<Segment, String> {
     }
     segment.set(FORM, word("form", &cells[7], &FORMS)?);
     segment.set(WAYS, 1 + word("ways", &cells[8], &WAYS_OPEN)?);
-    segment.set(MARKS, marks(&cells[12])?);
+    segment.set(MARKS, marks(&cells[12], edition)?);
     for (at, column) in [(AT_B, 13), (AT_A, 14)] {
-        approach(&mut segment, at, SEGMENTS[column], &cells[column])?;
+        let (crossed, turn) = cells[column]
+            .split_once(';')
+            .unwrap_or((&cells[column], "none"));
+        crossing(&mut segment, at, SEGMENTS[column], crossed.trim(), edition)?;
+        turn_lane(&mut segment, at, SEGMENTS[column], turn.trim())?;
     }
     Ok(segment)
 }
@@ -232,26 +288,47 @@ fn word(what: &str, cell: &str, words: &[&str]) -> Result<u32, String> {
     })
 }
 
+/// The same of words of which edition 01 lacks the last.
+fn word_of(edition: u32, what: &str, cell: &str, words: &[&str]) -> Result<u32, String> {
+    match words.split_last() {
+        Some((last, _)) if edition == 1 && *last == cell => Err(format!(
+            "{what} is {}, which needs edition 02: a table | {EDITION} | with the row | 02 | is due",
+            quoted(cell)
+        )),
+        Some((_, older)) if edition == 1 => word(what, cell, older),
+        _ => word(what, cell, words),
+    }
+}
+
 /// A sum of marks, named with commas between; `-` is none.
-fn marks(cell: &str) -> Result<u32, String> {
+fn marks(cell: &str, edition: u32) -> Result<u32, String> {
     if cell == "-" {
         return Ok(0);
     }
     let mut sum = 0;
     for mark in cell.split(',') {
-        sum |= 1 << word("a mark", mark.trim(), &MARKED)?;
+        sum |= 1 << word_of(edition, "a mark", mark.trim(), &MARKED)?;
     }
     Ok(sum)
 }
 
-/// What is crossed, and after a semicolon the turn lane.
-fn approach(segment: &mut Segment, at: usize, what: &str, cell: &str) -> Result<(), String> {
-    let (crossed, turn) = cell.split_once(';').unwrap_or((cell, "none"));
-    let (name, [lanes, speed]) = measured(what, crossed.trim(), ["lanes", "mph"])?;
-    segment.set(at + CONTROL, word(what, name, &CONTROLS)?);
+/// What is crossed.
+fn crossing(
+    segment: &mut Segment,
+    at: usize,
+    what: &str,
+    words: &str,
+    edition: u32,
+) -> Result<(), String> {
+    let (name, [lanes, speed]) = measured(what, words, ["lanes", "mph"])?;
+    segment.set(at + CONTROL, word_of(edition, what, name, &CONTROLS)?);
     segment.set(at + CROSSED, lanes);
     segment.set(at + CROSSED_SPEED, speed);
-    let (name, [length, speed]) = measured(what, turn.trim(), ["ft", "mph"])?;
+    Ok(())
+}
+
+fn turn_lane(segment: &mut Segment, at: usize, what: &str, words: &str) -> Result<(), String> {
+    let (name, [length, speed]) = measured(what, words, ["ft", "mph"])?;
     segment.set(at + TURN, word(what, name, &TURNS)?);
     segment.set(at + TURN_LENGTH, length);
     segment.set(at + TURN_SPEED, speed);
@@ -289,21 +366,6 @@ fn measured<'c>(
     }
 }
 
-/// The network text of so many nodes and these segments. A count that is too
-/// large for its bytes becomes the largest, which Read refuses.
-fn text(nodes: usize, segments: &[Segment]) -> Vec<u8> {
-    let count = |number: usize| u16::try_from(number).unwrap_or(u16::MAX).to_be_bytes();
-    let mut head = vec![segment::HEAD_KIND, 1];
-    head.extend(count(nodes));
-    head.extend(count(segments.len()));
-    head.push(segment::check(&head));
-    let mut text = line(&head);
-    for segment in segments {
-        text.extend(line(&segment.frame()));
-    }
-    text
-}
-
 /// A frame's line: uppercase digits and a line feed.
 fn line(frame: &[u8]) -> Vec<u8> {
     const DIGITS: &[u8; 16] = b"0123456789ABCDEF";
@@ -313,8 +375,9 @@ fn line(frame: &[u8]) -> Vec<u8> {
     line
 }
 
-/// What a refused text was made of.
+/// What a text is made of.
 struct Made<'t> {
+    edition: u32,
     /// The lines of the headings of nodes and of segments.
     headings: [usize; 2],
     places: &'t [Row<'t>],
@@ -323,6 +386,26 @@ struct Made<'t> {
 }
 
 impl Made<'_> {
+    /// A count that is too large for its bytes becomes the largest, which Read
+    /// refuses.
+    fn head(&self) -> Head {
+        let count = |number: usize| u32::try_from(number).unwrap_or(u32::MAX);
+        Head {
+            edition: self.edition,
+            nodes: count(self.places.len()),
+            segments: count(self.streets.len()),
+        }
+    }
+
+    /// The network text.
+    fn text(&self) -> Vec<u8> {
+        let mut text = line(&self.head().frame());
+        for street in self.streets {
+            text.extend(line(&street.frame()));
+        }
+        text
+    }
+
     /// What to mend in the tables where Read refuses their text.
     fn fault(&self, refused: ReadRefusal) -> Fault {
         let segment = (refused.line as usize).checked_sub(2);
@@ -352,7 +435,7 @@ impl Made<'_> {
             let node = format!("node {}, {place}", taken.node);
             return Some(taken.words(taken.by == number, &by, &node));
         }
-        let rule = segment::broken(segment, u32::try_from(self.places.len()).ok()?)?;
+        let rule = segment::broken(segment, self.head())?;
         Some(rule.words(segment.get(rule.field)))
     }
 }

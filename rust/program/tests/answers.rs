@@ -17,6 +17,7 @@ fn levels_are_the_oracles() {
         let said = run(&["levels", "-", "--json"], &town.text());
         assert_eq!((said.status, said.err.as_str()), (Some(0), ""));
         let answer = Json::read(&said.out);
+        assert_eq!(answer.get("edition").number(), usize::from(town.edition));
         let rows = answer.get("segments").list();
         assert_eq!(rows.len(), oracle.segments());
         for (s, (row, segment)) in rows.iter().zip(&town.segments).enumerate() {

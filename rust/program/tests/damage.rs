@@ -17,7 +17,8 @@ use std::process::Output;
 use std::sync::Mutex;
 use std::sync::atomic::{AtomicU64, Ordering};
 use std::time::{Duration, Instant, SystemTime};
-use towns::draw::{Rng, Shape, Spot, change, damage, town};
+use towns::draw::{Rng, Shape, Spot, change, damage, town_of};
+use towns::edition::EDITIONS;
 
 /// Makes a file.
 type Damaged = fn(&mut Rng) -> Vec<u8>;
@@ -52,8 +53,8 @@ fn random_digits(rng: &mut Rng) -> Vec<u8> {
 /// A town, now and then with as many segments as there may be.
 fn some_town(rng: &mut Rng) -> towns::Town {
     let size = if rng.chance(4) { 1_000 } else { rng.below(40) };
-    let shape = rng.pick(&Shape::ALL);
-    town(shape, rng.bits(), size)
+    let (edition, shape) = (rng.pick(&EDITIONS), rng.pick(&Shape::ALL));
+    town_of(edition, shape, rng.bits(), size)
 }
 
 fn whole_text(rng: &mut Rng) -> Vec<u8> {
@@ -104,7 +105,7 @@ fn changed(rng: &mut Rng, whole: Damaged) -> Vec<u8> {
 
 /// A table with some cells that hold something else.
 fn other_cells(rng: &mut Rng) -> Vec<u8> {
-    const WORDS: [&str; 24] = [
+    const WORDS: [&str; 28] = [
         "",
         "-",
         "-1",
@@ -124,6 +125,10 @@ fn other_cells(rng: &mut Rng) -> Vec<u8> {
         "island",
         "island 4 lanes 30 mph",
         "signal; straight 1 ft 5 mph",
+        "edition",
+        "02",
+        "turn lane",
+        "improved signal",
         "both",
         "path",
         "mixed",
@@ -145,6 +150,7 @@ fn mixed_lines(rng: &mut Rng) -> Vec<u8> {
         whole_text(rng),
         whole_table(rng),
         SEGMENTS.into(),
+        b"| edition |\n|---|\n| 02 |\n\n".to_vec(),
         b"```\n\n\r\n".to_vec(),
     ]
     .concat();

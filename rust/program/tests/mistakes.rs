@@ -103,6 +103,112 @@ fn tables_that_are_missing_or_broken() {
     );
 }
 
+/// The description with a table of its edition above, so that its row begins at
+/// line 12.
+fn of_edition(row: &str, description: &str) -> String {
+    format!("| edition |\n|---|\n{row}\n{description}")
+}
+
+#[test]
+fn editions_are_taken() {
+    let street = mixed("- | - | nothing", "- | turn lane | improved signal");
+    for (table, edition) in [
+        (with(ROW), "01"),
+        (of_edition("| 01 |\n", &with(ROW)), "01"),
+        (of_edition("| 1 |\n", &with(ROW)), "01"),
+        (of_edition("| 02 |\n", &with(ROW)), "02"),
+        (of_edition("| 2 |\n", &street), "02"),
+        (format!("{street}\n| edition |\n| --- |\n| 02 |\n"), "02"),
+        (
+            format!(
+                "{street}\n```\n| edition |\n```\n\n{}",
+                of_edition("| 02 |\n", "")
+            ),
+            "02",
+        ),
+    ] {
+        let said = run(&["check", "-"], table.as_bytes());
+        let due = format!("standard input: in order, edition {edition}, nodes 2, segments 1\n");
+        assert_eq!((said.out, said.err), (due, String::new()));
+        let text = run(&["text", "-"], table.as_bytes());
+        assert!(
+            text.out.starts_with(&format!("01{edition}00020001")),
+            "{}",
+            text.out
+        );
+    }
+}
+
+#[test]
+fn editions_that_are_none() {
+    let none = |row: &str, due: &str| table_says(&of_edition(row, &with(ROW)), due);
+    none("", "line 1: a row is due in this table: 01 or 02");
+    none(
+        "| 02 |\n| 01 |\n",
+        "line 4: a second edition: a town has one",
+    );
+    for row in ["0", "03", "04", "-1", "", "two", "-", "99999999999"] {
+        let words = format!("line 3: edition is '{row}', and must be one of: 01, 02");
+        none(&format!("| {row} |\n"), &words);
+    }
+    none("| 02 | new |\n", "line 3: 2 cells, and the heading has 1");
+    let two = of_edition("| 02 |\n", &of_edition("| 02 |\n", &with(ROW)));
+    table_says(
+        &two,
+        "line 5: a second table of editions: the edition stands in the one at line 1",
+    );
+    let named = of_edition("| 02 |\n", &with(ROW));
+    table_says(
+        &named.replace("|---|\n| 02 |", "| 02 |"),
+        "line 1: a row of dashes, as in |---|---|, is due below this heading",
+    );
+    table_says(
+        &named.replace("| 02 |", "\n| 02 |"),
+        "line 4: a row of no table: an empty line, or another text, parts it from its heading",
+    );
+    table_says(
+        &named.replace("| edition |", "| Edition |"),
+        "line 1: column 1 of the heading is 'Edition', and edition is due there",
+    );
+    table_says(
+        &named.replace("| edition |", "| edition | since |"),
+        "line 1: the heading has 2 columns, and must be | edition |",
+    );
+}
+
+/// The town has to name edition 02 for what only that has.
+#[test]
+fn words_of_edition_02_alone() {
+    let due = "which needs edition 02: a table | edition | with the row | 02 | is due";
+    let lane = mixed("- | - | nothing", "- | residential, turn lane | nothing");
+    table_says(&lane, &format!("line 8: a mark is 'turn lane', {due}"));
+    let [at_b, at_a] = ["nothing | nothing |\n", "nothing |\n"]
+        .map(|cells| row(cells, &cells.replacen("nothing", "improved signal", 1)));
+    table_says(&at_b, &format!("line 8: at B is 'improved signal', {due}"));
+    table_says(&at_a, &format!("line 8: at A is 'improved signal', {due}"));
+    table_says(
+        &of_edition("| 01 |\n", &at_a),
+        &format!("line 12: at A is 'improved signal', {due}"),
+    );
+    let words = |table: &str, due: &str| table_says(&of_edition("| 02 |\n", table), due);
+    words(
+        &mixed("- | - | nothing", "- | turnlane | nothing"),
+        "line 12: a mark is 'turnlane', and must be one of: centreline, residential, median, blocked, turn lane; did you mean turn lane?",
+    );
+    words(
+        &row("nothing |\n", "improved |\n"),
+        "line 12: at A is 'improved', and must be one of: nothing, signal, no island, island, one-way, improved signal",
+    );
+    words(
+        &row("nothing |\n", "improved signal 4 lanes 30 mph |\n"),
+        "refused, number 4, line 12: lanes crossed at A is 4 and must be 0 at an improved signal",
+    );
+    words(
+        &row("- | nothing", "turn lane | nothing"),
+        "refused, number 4, line 12: marks is 16 and must be 0 on a separate path",
+    );
+}
+
 #[test]
 fn rows_that_would_be_lost() {
     let parted = with(ROW).replace("| 1 | there", "\n| 1 | there");
@@ -406,7 +512,7 @@ const TEXTS: [(&[u8], &str, &[&str]); 21] = [
     ),
     (
         b"010900010000F5\n",
-        "number 4, line 1: edition 09 is not known: 01 is",
+        "number 4, line 1: edition 09 is not known: 01 and 02 are",
         &["  1 | 010900010000F5", "    |   ^^", "    |     Digits  Field     Number", "    |     01      kind           1", "    |  >  09      edition        9", "    |     0001    nodes          1", "    |     0000    segments       0", "    |     F5      check        245"],
     ),
     (

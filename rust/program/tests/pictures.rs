@@ -7,7 +7,8 @@ use common::xml::{Point, Xml};
 use common::{GRID, Json, run, table};
 use oracle::Net;
 use towns::Town;
-use towns::draw::{Rng, Shape, town};
+use towns::draw::{Rng, Shape, town_of};
+use towns::edition::EDITIONS;
 use towns::town::Segment;
 
 /// Names that a careless writer would let out of their place.
@@ -19,11 +20,9 @@ fn described(map: bool) -> impl Iterator<Item = (Town, String, [String; 3])> {
     (0..4 * Shape::ALL.len() as u64).map(move |seed| {
         let mut rng = Rng::new(seed);
         let size = rng.range(1, 40);
-        let town = town(
-            Shape::ALL[seed as usize % Shape::ALL.len()],
-            300 + seed,
-            size,
-        );
+        let shape = Shape::ALL[seed as usize % Shape::ALL.len()];
+        let edition = EDITIONS[seed as usize / Shape::ALL.len() % EDITIONS.len()];
+        let town = town_of(edition, shape, 300 + seed, size);
         let mut table = table(&town, map.then_some(GRID));
         for (place, name) in NAMES.iter().enumerate() {
             table = table.replace(&format!("| Place {place} |"), &format!("| {name} |"));

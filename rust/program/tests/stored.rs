@@ -281,13 +281,51 @@ fn node(path: &str, word: &str) -> usize {
     })
 }
 
+/// What check says of a file stands in its head.
+#[test]
+fn heads_are_the_files() {
+    let pages = pages("check");
+    assert!(pages.len() >= 5);
+    for (words, page) in pages {
+        let head = &kept(words.last().expect("a file"))[..7];
+        let count = |at: usize| usize::from(head[at]) * 256 + usize::from(head[at + 1]);
+        let (edition, nodes, segments) = (head[1], count(2), count(4));
+        let due = format!(": in order, edition {edition:02}, nodes {nodes}, segments {segments}\n");
+        assert!(page.ends_with(&due), "{page}");
+    }
+}
+
+/// Westerby and its text of edition 01 have the same streets, and at tolerance
+/// 2 other ways: a longer one, or one where the other has none.
+#[test]
+fn editions_answer_otherwise() {
+    let [newer, older] = ["towns/westerby.txt", "tests/splicereel/westerby-01.txt"];
+    let [text, other] = [newer, older].map(|path| fs::read(file(path)).expect(path));
+    let differ = |place: &usize| text[*place] != other[*place];
+    assert_eq!(text.len(), other.len());
+    // A digit of the edition, and one of the head's check.
+    assert_eq!((0..text.len()).filter(differ).collect::<Vec<_>>(), [3, 13]);
+    for (from, to, feet) in [
+        (0, 2, [Some(800), Some(1_200)]),
+        (0, 4, [Some(1_100), None]),
+        (2, 5, [None, Some(650)]),
+        (2, 7, [Some(700), Some(700)]),
+        (2, 9, [None, None]),
+    ] {
+        let route = |path| Ways::over(network(path)).route(from, to, 2);
+        assert_eq!([newer, older].map(route), feet.map(Ok), "{from} {to}");
+    }
+}
+
 #[test]
 fn levels_are_the_oracles() {
     let pages = pages("levels");
-    assert!(pages.len() >= 3);
+    assert!(pages.len() >= 7);
     for (words, page) in pages {
         let oracle = network(&words[1]);
-        let (heading, rows) = page.split_once('\n').expect("a heading");
+        let edition = format!("Edition  {:02}\n\n", kept(&words[1])[1]);
+        let rows = page.strip_prefix(&edition).expect(&edition);
+        let (heading, rows) = rows.split_once('\n').expect("a heading");
         assert_eq!(rows.lines().count(), oracle.segments());
         for (s, row) in rows.lines().enumerate() {
             let (judged, measure) = oracle.segment(s).expect("a segment");
@@ -324,6 +362,7 @@ fn fields_are_documented() {
     for name in [
         "check-json",
         "levels-json",
+        "levels-json-coldwell",
         "json-found",
         "json-none",
         "json-reach",
@@ -332,6 +371,7 @@ fn fields_are_documented() {
         "json-refused",
         "json-refused-1",
         "json-refused-4",
+        "json-refused-4-turn-lane",
     ] {
         let stored = file(&format!("tests/splicereel/{name}.out"));
         let answer = fs::read_to_string(stored).expect(name);

@@ -47,7 +47,7 @@ unsafe extern "C" {
         part: *mut usize,
     ) -> u32;
 
-    /// Judge a segment of a kept network.
+    /// Judge a segment of a kept network, by the rules of its edition.
     pub fn splicereel_judge_segment(
         net: *const u8,
         net_length: usize,
@@ -55,7 +55,7 @@ unsafe extern "C" {
         told: *mut u32,
     ) -> u32;
 
-    /// Judge the movement from one run onto another.
+    /// Judge the movement from one run onto another, by the same rules.
     pub fn splicereel_judge_movement(
         net: *const u8,
         net_length: usize,

@@ -10,6 +10,9 @@
 //!   [`route`] and [`least_stress`], with [`Lent`] for what a search borrows,
 //!   [`reach_map`] and [`nearest`], with [`Scratch`].
 //!
+//! Networks of editions 01 and 02 are read, and judged by the rules of the
+//! edition that their head names ([`Network::edition`]).
+//!
 //! Every call ends with an answer or a [`Refusal`] on every input; none
 //! panics, and a refusal leaves every lent slice as it was. The crate needs
 //! `alloc` and no operating system.
@@ -59,7 +62,7 @@ pub use reach::{Entries, ReachMap};
 pub use refusal::{ReadRefusal, Refusal, RefusedLine};
 
 /// The most nodes of every network that [`read`] can keep; today that is the
-/// largest of edition 01.
+/// largest of editions 01 and 02.
 pub const MAX_NODES: usize = 1_000;
 /// The most segments of every network that [`read`] can keep.
 pub const MAX_SEGMENTS: usize = 1_000;
@@ -75,7 +78,7 @@ pub const MAX_LIST: usize = 2 * MAX_NODES;
 /// long serves every network.
 pub const MAX_NETWORK: usize = 7 + 30 * MAX_SEGMENTS;
 
-/// The most nodes of a town; every network of edition 01 is a town.
+/// The most nodes of a town; every network of editions 01 and 02 is a town.
 ///
 /// A call about a town takes less than 64 KiB of stack, and one about a larger
 /// network less than 448 KiB.

@@ -96,7 +96,35 @@ impl Network {
         }
     }
 
-    /// The edition that its head names.
+    /// The edition that its head names, by whose rules it is judged: 1 or 2.
+    ///
+    /// This street has a bike lane beside parking, one lane each way, a limit of
+    /// 25 mph and a reach of 26 half feet, and is residential. By the rules of
+    /// edition 01 the narrow reach is level 2; by those of edition 02 riding in
+    /// the traffic of so quiet a street is level 1, and the lower level counts:
+    ///
+    /// ```
+    /// use splicereel::{Level, Measure, Network};
+    ///
+    /// let older = b"\
+    /// 010100020001FB
+    /// 0200000200010601F4010301191A020000000000000000000000000000C6
+    /// ";
+    /// let older = Network::read(older)?;
+    /// let judged = older.judge_segment(0)?;
+    /// assert_eq!(older.edition(), 1);
+    /// assert_eq!((judged.level, judged.measure), (Level::Two, Measure::Reach));
+    ///
+    /// let newer = b"\
+    /// 010200020001FA
+    /// 0200000200010601F4010301191A020000000000000000000000000000C6
+    /// ";
+    /// let newer = Network::read(newer)?;
+    /// let judged = newer.judge_segment(0)?;
+    /// assert_eq!(newer.edition(), 2);
+    /// assert_eq!((judged.level, judged.measure), (Level::One, Measure::MixedTraffic));
+    /// # Ok::<(), Box<dyn std::error::Error>>(())
+    /// ```
     pub fn edition(&self) -> u8 {
         self.bytes.get(1).copied().unwrap_or(0)
     }
@@ -132,6 +160,19 @@ impl Network {
 
     /// Level of the movement from one run onto another, or
     /// [`Refusal::NoSuchRun`], or [`Refusal::NoMovement`].
+    ///
+    /// Under edition 02 a signal is level 4. In Coldwell it is crossed on the way
+    /// from segment 2 onto segment 3, and an improved one, level 1, from segment
+    /// 4 onto segment 5:
+    ///
+    /// ```
+    /// use splicereel::{Level, Network, Run};
+    /// # let text = include_bytes!(concat!(env!("CARGO_MANIFEST_DIR"), "/../../towns/coldwell.txt"));
+    /// let coldwell = Network::read(text)?;
+    /// assert_eq!(coldwell.judge_movement(Run::from(4), Run::from(6)), Ok(Level::Four));
+    /// assert_eq!(coldwell.judge_movement(Run::from(8), Run::from(10)), Ok(Level::One));
+    /// # Ok::<(), Box<dyn std::error::Error>>(())
+    /// ```
     ///
     /// ```
     /// use splicereel::{Level, Network, Run};

@@ -54,7 +54,7 @@ pub enum Refusal {
     /// or there are fewer marks than nodes.
     TooFewEntries,
     /// A number that this crate does not know, as an archive of another
-    /// edition could return; or an answer out of the known range.
+    /// version could return; or an answer out of the known range.
     Unknown(u32),
 }
 

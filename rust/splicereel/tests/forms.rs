@@ -9,6 +9,7 @@ use splicereel::{
 use std::collections::HashSet;
 use std::error::Error;
 use towns::draw::{self, Rng, Shape, Spot, damage};
+use towns::edition::EDITIONS;
 use towns::lend::{Guarded, Lengths, Lent as Room};
 use towns::town::{Town, block_town};
 
@@ -273,7 +274,7 @@ fn calls_fit_a_small_stack() {
     assert!(thread.join().expect("no panic"));
 }
 
-/// Both forms, on towns of every shape: the same bytes, levels, routes and
+/// Both forms, on towns of every shape and edition: the same bytes, levels, routes and
 /// reach, as long as the twin's.
 #[test]
 fn forms_are_alike() {
@@ -281,13 +282,15 @@ fn forms_are_alike() {
     let (mut ridden, mut reached) = (0, 0);
     for seed in 0..260 {
         let shape = Shape::ALL[seed as usize % Shape::ALL.len()];
+        let edition = EDITIONS[seed as usize / Shape::ALL.len() % EDITIONS.len()];
         let size = rng.range(0, 60);
-        let town = draw::town(shape, seed, size);
+        let town = draw::town_of(edition, shape, seed, size);
         let network = Network::read(&town.text()).expect("a network");
         let mut output = vec![0; MAX_NETWORK];
         let written = read(&town.text(), &mut output).expect("a network");
         assert_eq!(&output[..written], network.as_bytes());
         assert_eq!(Network::refused_line(&town.text()), None);
+        assert_eq!(network.edition(), edition);
         assert_eq!(network.nodes(), usize::from(town.nodes));
         assert_eq!(network.segments(), town.segments.len());
         assert_eq!(Network::from_bytes(town.bytes()).as_ref(), Ok(&network));

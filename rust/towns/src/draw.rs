@@ -7,7 +7,7 @@ mod fields;
 mod plan;
 
 pub use damage::{Damage, Spot, change, damage, damage_kept, seal};
-pub use plan::{mixed_grid, town};
+pub use plan::{mixed_grid, town, town_of};
 
 /// The splitmix generator.
 #[derive(Clone, Debug)]

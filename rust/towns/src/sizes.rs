@@ -1,4 +1,5 @@
-//! How large a town may be: a network of edition 01, as the paper has it.
+//! How large a town may be: a network of edition 01, as the paper has it, or of
+//! edition 02, which has the same sizes.
 
 /// The most nodes of a town.
 pub const MOST_NODES: usize = 1_000;

@@ -8,8 +8,11 @@ use crate::sizes::SEGMENT;
 const HEAD_KIND: u8 = 1;
 /// Kind byte of a segment frame.
 pub(crate) const SEGMENT_KIND: u8 = 2;
-/// The byte of a head that names edition 01.
-const EDITION: u8 = 1;
+/// The byte of a head that names edition 01, of which a town is if nothing else
+/// is said.
+pub const OLDER: u8 = 1;
+/// The byte of a head that names edition 02.
+pub const NEWER: u8 = 2;
 
 /// A segment's end: a node and one of its legs.
 #[derive(Clone, Copy, Debug, Default, PartialEq, Eq)]
@@ -29,7 +32,8 @@ pub fn end(node: u16, leg: u8) -> End {
 /// no turn lane.
 #[derive(Clone, Copy, Debug, Default, PartialEq, Eq)]
 pub struct Approach {
-    /// 0 nothing crossed, 1 signal, 2 no island, 3 island, 4 one-way street.
+    /// 0 nothing crossed, 1 signal, 2 no island, 3 island, 4 one-way street,
+    /// 5 signal with a bicycle left-turn improvement.
     pub control: u8,
     /// Lanes crossed.
     pub lanes: u8,
@@ -44,6 +48,12 @@ pub struct Approach {
 }
 
 impl Approach {
+    /// An approach to a signal; with a bicycle left-turn improvement it is one
+    /// of edition 02.
+    pub fn signal(improved: bool) -> Approach {
+        Approach::crossing(if improved { IMPROVED_SIGNAL } else { SIGNAL }, 0, 0)
+    }
+
     /// An approach that crosses lanes and has no turn lane.
     pub fn crossing(control: u8, lanes: u8, speed: u8) -> Approach {
         Approach {
@@ -71,6 +81,11 @@ impl Approach {
     }
 }
 
+/// Control: signal.
+pub const SIGNAL: u8 = 1;
+/// Control: signal with a bicycle left-turn improvement, in edition 02.
+pub const IMPROVED_SIGNAL: u8 = 5;
+
 /// Marks: centreline marked.
 pub const CENTRELINE: u8 = 1;
 /// Marks: residential.
@@ -79,6 +94,8 @@ pub const RESIDENTIAL: u8 = 2;
 pub const MEDIAN: u8 = 4;
 /// Marks: bike lane often blocked.
 pub const BLOCKED: u8 = 8;
+/// Marks: central two-way turn lane, in edition 02.
+pub const TURN_LANE: u8 = 16;
 
 /// A segment, with all fields of its frame between kind and check.
 #[derive(Clone, Copy, Debug, PartialEq, Eq)]
@@ -172,8 +189,10 @@ impl Segment {
 }
 
 /// A network under construction.
-#[derive(Clone, Debug, Default, PartialEq, Eq)]
+#[derive(Clone, Debug, PartialEq, Eq)]
 pub struct Town {
+    /// The edition's byte.
+    pub edition: u8,
     /// N.
     pub nodes: u16,
     /// The segments, numbered from 0.
@@ -181,12 +200,18 @@ pub struct Town {
 }
 
 impl Town {
-    /// A town of so many nodes, without segments.
+    /// A town of edition 01 with so many nodes, without segments.
     pub fn new(nodes: u16) -> Town {
         Town {
+            edition: OLDER,
             nodes,
             segments: Vec::new(),
         }
+    }
+
+    /// The same town in another edition.
+    pub fn edition(self, edition: u8) -> Town {
+        Town { edition, ..self }
     }
 
     /// The same town with one more segment.
@@ -197,7 +222,8 @@ impl Town {
 
     /// The head frame, check computed.
     pub fn head(&self) -> Vec<u8> {
-        head(
+        head_of(
+            self.edition,
             self.nodes,
             u16::try_from(self.segments.len()).unwrap_or(u16::MAX),
         )
@@ -223,7 +249,12 @@ impl Town {
 
 /// A head frame of edition 01 with these numbers, check computed.
 pub fn head(nodes: u16, segments: u16) -> Vec<u8> {
-    let mut out = vec![HEAD_KIND, EDITION];
+    head_of(OLDER, nodes, segments)
+}
+
+/// The same of an edition.
+pub fn head_of(edition: u8, nodes: u16, segments: u16) -> Vec<u8> {
+    let mut out = vec![HEAD_KIND, edition];
     out.extend(nodes.to_be_bytes());
     out.extend(segments.to_be_bytes());
     out.push(check(&out));
@@ -269,4 +300,25 @@ pub fn linden() -> Town {
         .with(Segment::path(end(3, 3), end(2, 7), 500))
         .with(Segment::path(end(2, 2), end(4, 6), 300).street(1, 1, 20, 26, 0))
         .with(Segment::path(end(2, 4), end(5, 0), 350).street(1, 1, 25, 27, CENTRELINE))
+}
+
+/// Westerby, the town of `towns/westerby.md`: streets that are lower in their
+/// traffic than in their bike lanes, and a corner with a signal. It has nothing
+/// that edition 01 refuses.
+pub fn westerby() -> Town {
+    let quiet = |a, b, feet| Segment::path(a, b, feet).street(0, 2, 25, 0, RESIDENTIAL);
+    let lane = |a, b, feet| Segment::path(a, b, feet).street(2, 2, 25, 12, RESIDENTIAL);
+    let high = |a, b| Segment::path(a, b, 400).street(2, 1, 30, 12, CENTRELINE);
+    Town::new(10)
+        .edition(NEWER)
+        .with(Segment::path(end(0, 2), end(1, 6), 200))
+        .with(Segment::path(end(1, 2), end(2, 6), 600).street(1, 1, 30, 30, BLOCKED))
+        .with(Segment::path(end(1, 1), end(3, 5), 500))
+        .with(Segment::path(end(3, 3), end(2, 7), 500))
+        .with(lane(end(2, 0), end(4, 4), 300).ways(1))
+        .with(lane(end(2, 2), end(9, 6), 350))
+        .with(quiet(end(2, 4), end(6, 0), 300).at_b(Approach::signal(false)))
+        .with(quiet(end(6, 4), end(5, 0), 350).at_a(Approach::signal(false)))
+        .with(high(end(7, 2), end(6, 6)))
+        .with(high(end(6, 2), end(8, 6)))
 }

@@ -4,7 +4,7 @@ use crate::edition::Edition;
 
 /// Bytes of a head.
 pub(crate) const HEAD: usize = 7;
-/// Bytes of a segment frame; only edition 01 exists, and all are of its size.
+/// Bytes of a segment frame; those of every edition are of its size.
 pub(crate) const SEGMENT: usize = Edition::One.frame_bytes();
 /// Kind byte of a head.
 pub(crate) const HEAD_KIND: u8 = 0x01;
@@ -58,6 +58,12 @@ impl Head {
             nodes,
             segments,
         })
+    }
+
+    /// The same numbers in an edition.
+    #[inline]
+    pub fn of(self, edition: Edition) -> Head {
+        Head { edition, ..self }
     }
 
     /// Bytes of the kept network.
@@ -160,7 +166,7 @@ impl<'a> Segment<'a> {
 
     /// Whether the fields between kind and check obey the ranges and rules,
     /// in a network with this head.
-    #[inline]
+    #[inline(always)]
     pub fn in_order(self, head: Head) -> bool {
         let Head { edition, nodes, .. } = head;
         let (a, b) = (self.a(), self.b());
@@ -221,7 +227,7 @@ impl Approach {
         self.0[6]
     }
 
-    #[inline]
+    #[inline(always)]
     fn in_order(self, edition: Edition) -> bool {
         if self.0 == [0; APPROACH] {
             return true;

@@ -1,6 +1,7 @@
 //! The tables: level and measure of a segment, levels of an approach.
 //!
-//! Everything here expects fields that are in order.
+//! Everything here expects fields that are in order, and is told whether the
+//! newer rules hold, which are Note 5's of document 02.
 
 use crate::frame::{Approach, Segment};
 
@@ -8,6 +9,13 @@ const CENTRELINE: u8 = 1;
 const RESIDENTIAL: u8 = 2;
 const MEDIAN: u8 = 4;
 const BLOCKED: u8 = 8;
+const TURN_LANE: u8 = 16;
+
+const SIGNAL: u8 = 1;
+const IMPROVED_SIGNAL: u8 = 5;
+
+/// Half feet that a central two-way turn lane adds to a reach.
+const WIDENING: u8 = 4;
 
 /// Bands: to 25, 26 to 30, 31 to 35, 36 and over.
 #[inline]
@@ -22,13 +30,44 @@ fn band(speed: u8) -> usize {
 
 /// Level and governing measure of a segment.
 #[inline]
-pub(crate) fn segment(s: Segment<'_>) -> (u8, u8) {
+pub(crate) fn segment(s: Segment<'_>, newer: bool) -> (u8, u8) {
+    if newer { by_newer(s) } else { by_older(s) }
+}
+
+#[inline]
+fn by_older(s: Segment<'_>) -> (u8, u8) {
     match s.form() {
         0 => (mixed(s.lanes(), band(s.speed()), s.marks()), 5),
-        1 => governing(beside_parking(s)),
-        2 => governing(without_parking(s)),
+        1 => governing(beside_parking(s, s.reach())),
+        2 => governing(without_parking(s, s.reach())),
         _ => (1, 6),
     }
+}
+
+/// The older rules with a wider reach; a bike lane is no worse than riding with
+/// the traffic beside it. Kept out of the way of the older rules.
+#[cold]
+fn by_newer(s: Segment<'_>) -> (u8, u8) {
+    let own = match s.form() {
+        1 => governing(beside_parking(s, widened(s))),
+        2 => governing(without_parking(s, widened(s))),
+        _ => return by_older(s),
+    };
+    // Form 0 has all through lanes, forms 1 and 2 those of one direction.
+    let lanes = match s.ways() {
+        3 => 2 * s.lanes(),
+        _ => s.lanes(),
+    };
+    match mixed(lanes, band(s.speed()), s.marks()) {
+        lower if lower < own.0 => (lower, 5),
+        _ => own,
+    }
+}
+
+/// The reach as the newer rules count it.
+fn widened(s: Segment<'_>) -> u8 {
+    let widens = s.lanes() == 1 && s.ways() == 3 && s.marks() & TURN_LANE != 0;
+    s.reach() + if widens { WIDENING } else { 0 }
 }
 
 #[inline]
@@ -43,12 +82,12 @@ fn mixed(lanes: u8, band: usize, marks: u8) -> u8 {
 }
 
 #[inline]
-fn beside_parking(s: Segment<'_>) -> [u8; 4] {
+fn beside_parking(s: Segment<'_>, reach: u8) -> [u8; 4] {
     // Note 2: there a narrow reach costs at most level 2.
     let quiet = s.speed() < 25 || s.marks() & RESIDENTIAL != 0;
     [
         if s.lanes() == 1 { 1 } else { 3 },
-        match s.reach() {
+        match reach {
             0..=27 if quiet => 2,
             0..=27 => 3,
             28 | 29 => 2,
@@ -60,14 +99,14 @@ fn beside_parking(s: Segment<'_>) -> [u8; 4] {
 }
 
 #[inline]
-fn without_parking(s: Segment<'_>) -> [u8; 4] {
+fn without_parking(s: Segment<'_>, reach: u8) -> [u8; 4] {
     [
         match s.lanes() {
             1 => 1,
             2 if s.marks() & MEDIAN != 0 => 2,
             _ => 3,
         },
-        if s.reach() >= 12 { 1 } else { 2 },
+        if reach >= 12 { 1 } else { 2 },
         [1, 1, 3, 4][band(s.speed())],
         if s.marks() & BLOCKED != 0 { 3 } else { 1 },
     ]
@@ -96,11 +135,15 @@ pub(crate) struct Arrival {
 
 impl Arrival {
     #[inline]
-    pub fn of(approach: Approach) -> Arrival {
+    pub fn of(approach: Approach, newer: bool) -> Arrival {
         let right = turn_lane(approach);
         Arrival {
             right,
-            other: right.max(crossing(approach)),
+            other: right.max(if newer {
+                newer_crossing(approach)
+            } else {
+                crossing(approach)
+            }),
         }
     }
 }
@@ -128,6 +171,16 @@ fn crossing(a: Approach) -> u8 {
         3 => ISLAND[band][wide],
         4 => ONE_WAY[band][one_way],
         _ => 1,
+    }
+}
+
+/// The same by the newer rules.
+#[cold]
+fn newer_crossing(a: Approach) -> u8 {
+    match a.control() {
+        SIGNAL => 4,
+        IMPROVED_SIGNAL => 1,
+        _ => crossing(a),
     }
 }
 

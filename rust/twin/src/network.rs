@@ -1,7 +1,7 @@
 //! Kept bytes under test 8, the used legs of their nodes, the runs that leave
 //! by them, and the two judgements.
 
-use crate::edition::{MAX_NODES, MAX_RUNS};
+use crate::edition::{Edition, MAX_NODES, MAX_RUNS};
 use crate::frame::{End, HEAD, HEAD_KIND, Head, SEGMENT, SEGMENT_KIND, Segment, checks};
 use crate::level::{self, Arrival};
 use std::ops::Deref;
@@ -71,6 +71,8 @@ impl Corners {
 #[derive(Clone, Copy)]
 pub(crate) struct Network<'n, 'a> {
     nodes: usize,
+    /// Whether the newer rules tell its levels.
+    newer: bool,
     frames: &'n [[u8; SEGMENT]],
     legs: &'a Legs,
 }
@@ -131,7 +133,7 @@ impl<'n, 'a> Network<'n, 'a> {
     fn test_noting(
         net: &'n [u8],
         legs: &'a mut Legs,
-        mut note: impl FnMut(End, usize),
+        note: impl FnMut(End, usize),
     ) -> Option<Network<'n, 'a>> {
         let (head, body) = net.split_first_chunk::<HEAD>()?;
         if head[0] != HEAD_KIND || !checks(head) {
@@ -142,21 +144,14 @@ impl<'n, 'a> Network<'n, 'a> {
             return None;
         }
         let (frames, _) = body.as_chunks::<SEGMENT>();
-        for (s, frame) in frames.iter().enumerate() {
-            let segment = Segment(frame);
-            let good = frame[0] == SEGMENT_KIND
-                && checks(frame)
-                && segment.in_order(head)
-                && legs.claim(segment.a())
-                && legs.claim(segment.b());
-            if !good {
-                return None;
-            }
-            note(segment.a(), 2 * s);
-            note(segment.b(), 2 * s + 1);
-        }
-        Some(Network {
+        // A loop for each edition: what one adds costs the others nothing.
+        let sound = match head.edition {
+            Edition::One => all_sound(frames, head.of(Edition::One), legs, note),
+            Edition::Two => all_sound(frames, head.of(Edition::Two), legs, note),
+        };
+        sound.then_some(Network {
             nodes: head.nodes,
+            newer: head.edition.newer_rules(),
             frames,
             legs,
         })
@@ -203,11 +198,12 @@ impl<'n, 'a> Network<'n, 'a> {
     #[inline]
     pub fn arrival(&self, run: usize) -> Arrival {
         let segment = self.segment(run);
-        Arrival::of(if run % 2 == 0 {
+        let approach = if run % 2 == 0 {
             segment.at_b()
         } else {
             segment.at_a()
-        })
+        };
+        Arrival::of(approach, self.newer)
     }
 
     /// Whether the ways allow a run.
@@ -219,7 +215,7 @@ impl<'n, 'a> Network<'n, 'a> {
     /// The level of a run's segment.
     #[inline]
     pub fn level(&self, run: usize) -> u8 {
-        level::segment(self.segment(run)).0
+        level::segment(self.segment(run), self.newer).0
     }
 
     /// The level of the movement from run `p` onto run `q`, which leaves the
@@ -233,6 +229,31 @@ impl<'n, 'a> Network<'n, 'a> {
             arrival.other
         }
     }
+}
+
+/// Whether the segment frames of a network are in order, gathering used legs on
+/// the way and telling of each end.
+#[inline(always)]
+fn all_sound(
+    frames: &[[u8; SEGMENT]],
+    head: Head,
+    legs: &mut Legs,
+    mut note: impl FnMut(End, usize),
+) -> bool {
+    for (s, frame) in frames.iter().enumerate() {
+        let segment = Segment(frame);
+        let good = frame[0] == SEGMENT_KIND
+            && checks(frame)
+            && segment.in_order(head)
+            && legs.claim(segment.a())
+            && legs.claim(segment.b());
+        if !good {
+            return false;
+        }
+        note(segment.a(), 2 * s);
+        note(segment.b(), 2 * s + 1);
+    }
+    true
 }
 
 /// Whether the bytes are a network that [`read`](crate::read()) could keep.
@@ -249,7 +270,7 @@ pub fn judge_segment(net: &[u8], s: usize) -> Result<(u8, u8), u8> {
     if s >= town.segments() {
         return Err(12);
     }
-    Ok(level::segment(town.segment(2 * s)))
+    Ok(level::segment(town.segment(2 * s), town.newer))
 }
 
 /// Level of the movement from run `p` onto run `q`.

@@ -7,13 +7,23 @@ use search::{least_stress, route};
 use towns::draw::Rng;
 use towns::lend::{Lengths, Lent};
 use towns::town::{Approach, Segment, Town, block_town, end};
-use towns::town::{BLOCKED, CENTRELINE, MEDIAN, RESIDENTIAL};
+use towns::town::{BLOCKED, CENTRELINE, MEDIAN, NEWER, OLDER, RESIDENTIAL, TURN_LANE};
 use twin::{Found, judge_movement, judge_segment, read};
 
-/// Level and measure of one street, checked with the oracle.
+/// Level and measure of one street of edition 01, checked with the oracle.
 fn street(form: u8, lanes: u8, speed: u8, reach: u8, marks: u8) -> (u8, u8) {
     let segment = Segment::path(end(0, 2), end(1, 6), 500).street(form, lanes, speed, reach, marks);
-    let net = Town::new(2).with(segment).bytes();
+    judged(OLDER, segment)
+}
+
+/// Level and measure of one street of edition 02, open so.
+fn newer(ways: u8, form: u8, lanes: u8, speed: u8, reach: u8, marks: u8) -> (u8, u8) {
+    let segment = Segment::path(end(0, 2), end(1, 6), 500).ways(ways);
+    judged(NEWER, segment.street(form, lanes, speed, reach, marks))
+}
+
+fn judged(edition: u8, segment: Segment) -> (u8, u8) {
+    let net = Town::new(2).edition(edition).with(segment).bytes();
     let answer = judge_segment(&net, 0).expect("a network");
     assert_eq!(Net::parse(&net).expect("a network").segment(0), Ok(answer));
     answer
@@ -21,7 +31,13 @@ fn street(form: u8, lanes: u8, speed: u8, reach: u8, marks: u8) -> (u8, u8) {
 
 /// Levels straight on and onto the right-hand exit, with this approach.
 fn approach(approach: Approach) -> (u8, u8) {
+    approach_of(OLDER, approach)
+}
+
+/// The same in an edition.
+fn approach_of(edition: u8, approach: Approach) -> (u8, u8) {
     let net = Town::new(4)
+        .edition(edition)
         .with(Segment::path(end(0, 0), end(1, 4), 100).at_b(approach))
         .with(Segment::path(end(1, 0), end(2, 4), 100))
         .with(Segment::path(end(1, 3), end(3, 4), 100))
@@ -219,6 +235,98 @@ fn both_on_one_approach() {
     assert_eq!(both(1, 100, 15, 2, 6, 25), (4, 2));
     assert_eq!(both(2, 100, 15, 2, 4, 25), (3, 3));
     assert_eq!(both(3, 200, 15, 3, 4, 25), (4, 4));
+}
+
+/// Note 5 of document 02, on streets open both ways: a turn lane in the middle
+/// widens a reach, and the mixed level, at twice the lanes, is taken where it is
+/// lower.
+#[test]
+fn newer_rules_both_ways() {
+    assert_eq!(newer(3, 1, 1, 25, 27, 0), (1, 5));
+    assert_eq!(newer(3, 1, 1, 25, 27, TURN_LANE), (1, 1));
+    assert_eq!(newer(3, 2, 3, 25, 12, 0), (3, 1));
+    assert_eq!(newer(3, 2, 1, 26, 12, BLOCKED | CENTRELINE), (3, 4));
+    let calm = BLOCKED | CENTRELINE | RESIDENTIAL;
+    assert_eq!(newer(3, 2, 1, 26, 12, calm), (2, 5));
+    let marks = TURN_LANE | CENTRELINE;
+    assert_eq!(newer(3, 1, 1, 26, 23, marks), (3, 2));
+    assert_eq!(newer(3, 1, 1, 26, 24, marks), (2, 2));
+    assert_eq!(newer(3, 1, 1, 26, 26, marks), (2, 3));
+    // Form 2 from 8 half feet on.
+    assert_eq!(newer(3, 2, 1, 26, 7, marks), (2, 2));
+    assert_eq!(newer(3, 2, 1, 26, 8, marks), (1, 1));
+    assert_eq!(newer(3, 1, 12, 25, 30, TURN_LANE), (3, 1), "24 lanes");
+}
+
+/// Open one way, nothing is widened, and the mixed level is looked up at the
+/// street's own lanes.
+#[test]
+fn newer_rules_one_way() {
+    for ways in [1, 2] {
+        assert_eq!(newer(ways, 2, 3, 25, 12, 0), (2, 5));
+        assert_eq!(newer(ways, 1, 1, 25, 27, TURN_LANE), (1, 5));
+        assert_eq!(newer(ways, 1, 1, 26, 24, TURN_LANE | CENTRELINE), (3, 2));
+        assert_eq!(newer(ways, 2, 1, 26, 8, TURN_LANE | CENTRELINE), (2, 2));
+    }
+}
+
+/// Forms 0 and 3 keep their levels, the mark has no effect on form 0, and a
+/// footnote of Note 2 holds for the reach as it is counted.
+#[test]
+fn newer_rules_elsewhere() {
+    for (lanes, speed, marks) in [(2, 25, 0), (2, 25, CENTRELINE), (3, 26, 2), (4, 25, 0)] {
+        let older = street(0, lanes, speed, 0, marks);
+        for ways in 1..=3 {
+            assert_eq!(newer(ways, 0, lanes, speed, 0, marks), older);
+            assert_eq!(newer(ways, 0, lanes, speed, 0, marks | TURN_LANE), older);
+        }
+    }
+    assert_eq!(newer(3, 3, 0, 0, 0, 0), (1, 6));
+    // Residential, 30 mph and 23 + 4 half feet: 2 by the footnote.
+    assert_eq!(newer(3, 1, 1, 30, 23, TURN_LANE | RESIDENTIAL), (2, 2));
+    assert_eq!(newer(3, 1, 1, 31, 23, TURN_LANE | RESIDENTIAL), (3, 3));
+}
+
+/// The levels of edition 02 told by those of edition 01, as the note says it.
+#[test]
+fn newer_rules_as_written() {
+    let reaches = [0, 7, 8, 11, 12, 23, 24, 25, 26, 27, 28, 29, 30, 60];
+    for speed in [5, 24, 25, 26, 30, 31, 35, 36, 85] {
+        for (ways, lanes) in (1..=3u8).flat_map(|ways| [1, 2, 3, 4, 6, 12].map(|l| (ways, l))) {
+            for (reach, marks) in reaches.iter().flat_map(|&r| (0..32u8).map(move |m| (r, m))) {
+                let (mark, others) = (marks & TURN_LANE, marks & !TURN_LANE);
+                let widened = ways == 3 && lanes == 1 && mark != 0;
+                let counts = reach + if widened { 4 } else { 0 };
+                let through = if ways == 3 { 2 * lanes } else { lanes };
+                // Beyond a frame's 12 lanes the table has nothing new.
+                let mixed = street(0, through.min(12), speed, 0, others).0;
+                for form in [1, 2] {
+                    let own = street(form, lanes, speed, counts.min(60), others);
+                    let must = if mixed < own.0 { (mixed, 5) } else { own };
+                    assert_eq!(newer(ways, form, lanes, speed, reach, marks), must);
+                }
+            }
+        }
+    }
+}
+
+/// "Control 1 is level 4 and control 5 is level 1", onto the right-hand exit the
+/// turn lane's level alone.
+#[test]
+fn signals() {
+    let (plain, improved) = (Approach::signal(false), Approach::signal(true));
+    let lane = |approach: Approach| approach.turning(1, 100, 15);
+    assert_eq!(approach_of(OLDER, plain), (1, 1));
+    assert_eq!(approach_of(OLDER, lane(plain)), (2, 2));
+    assert_eq!(approach_of(NEWER, plain), (4, 1));
+    assert_eq!(approach_of(NEWER, lane(plain)), (4, 2));
+    assert_eq!(approach_of(NEWER, improved), (1, 1));
+    assert_eq!(approach_of(NEWER, lane(improved)), (2, 2));
+    // Nothing else that is crossed has another level.
+    for (control, lanes, speed) in [(0, 0, 0), (2, 6, 25), (3, 6, 25), (4, 3, 26)] {
+        let crossing = Approach::crossing(control, lanes, speed);
+        assert_eq!(approach_of(NEWER, crossing), approach(crossing));
+    }
 }
 
 /// What Block town's three segments need, from a place on, and five numbers

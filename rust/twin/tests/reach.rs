@@ -2,6 +2,7 @@
 
 use oracle::{Net, Ways};
 use towns::draw::{self, Rng, Shape};
+use towns::edition::EDITIONS;
 use towns::lend::Guarded;
 use towns::town::{Segment, Town, block_town, end};
 use twin::{TOWN_NODES, TOWN_SEGMENTS};
@@ -249,7 +250,8 @@ fn random_towns(seeds: std::ops::Range<u64>, segments: usize, starts: usize) -> 
     for seed in seeds {
         let shape = Shape::ALL[seed as usize % Shape::ALL.len()];
         let wanted = rng.range(segments / 2, segments);
-        let town = draw::town(shape, seed, wanted);
+        let edition = Rng::new(seed).pick(&EDITIONS);
+        let town = draw::town_of(edition, shape, seed, wanted);
         let (net, nodes) = (town.bytes(), usize::from(town.nodes));
         let mut ways = Ways::over(Net::parse(&net).expect("a network"));
         for _ in 0..starts {

@@ -5,8 +5,10 @@ mod search;
 use oracle::Net;
 use search::{least_stress, route};
 use towns::draw::{self, Rng, Shape, Spot, damage, damage_kept};
+use towns::edition::EDITIONS;
 use towns::lend::{Guarded, Lengths, Lent};
-use towns::town::{Approach, Segment, Town, block_town, check, end, head, line, text_of};
+use towns::town::{Approach, Segment, Town, block_town, check, end, head, head_of, line, text_of};
+use towns::town::{NEWER, OLDER};
 use twin::{Found, MAX_NETWORK, is_network, judge_movement, judge_segment, read, refused_line};
 use twin::{nearest, reach_map};
 
@@ -79,12 +81,16 @@ fn empty_and_ends() {
 #[test]
 fn heads() {
     assert_eq!(full(&line(&head(1_000, 0))), Ok(7));
+    assert_eq!(full(&line(&head_of(2, 1_000, 0))), Ok(7));
     for (frame, number) in [
         (head(0, 0), 4),
         (head(1_001, 0), 4),
         (head(1, 1_001), 4),
         (sealed(vec![1, 0, 0, 1, 0, 0]), 4),
-        (sealed(vec![1, 2, 0, 1, 0, 0]), 4),
+        (sealed(vec![1, 4, 0, 1, 0, 0]), 4),
+        (sealed(vec![1, 255, 0, 1, 0, 0]), 4),
+        (sealed(vec![1, 2, 0, 0, 0, 0]), 4),
+        (sealed(vec![1, 2, 0, 1, 3, 233]), 4),
         (sealed(vec![2, 1, 0, 1, 0, 0]), 3),
         (sealed(vec![2, 9, 0, 0, 9, 9]), 3),
         (sealed(vec![1, 1, 0, 1, 0, 0, 0]), 3),
@@ -128,6 +134,32 @@ fn order_within_a_line() {
     text[at] = b'0';
     text.pop();
     assert_eq!(full(&text), Err((1, 3)));
+}
+
+/// The new values are 4 under edition 01, after 5 and before 6, at the line that
+/// has them.
+#[test]
+fn new_values_under_edition_01() {
+    let good = path((0, 2), (1, 2));
+    let marked = good_segment().street(2, 1, 25, 12, 16);
+    let signal = path((0, 0), (1, 0)).at_a(Approach::signal(true));
+    for new in [marked, signal] {
+        let town = Town::new(2).with(good).with(new);
+        for (edition, answer) in [(OLDER, Err((4, 3))), (NEWER, Ok(67))] {
+            let town = town.clone().edition(edition);
+            assert_eq!(full(&town.text()), answer);
+            assert_eq!(is_network(&town.bytes()), answer.is_ok());
+        }
+        let twice = Segment { a: good.a, ..new };
+        for (edition, number) in [(OLDER, 4), (NEWER, 6)] {
+            let frames = [head_of(edition, 2, 2), good.frame(), twice.frame()];
+            assert_eq!(full(&text_of(&frames)), Err((number, 3)));
+            let frames = [head_of(edition, 2, 1), good.frame(), twice.frame()];
+            assert_eq!(full(&text_of(&frames)), Err((5, 3)));
+            let kept = [head_of(edition, 2, 2), good.frame(), twice.frame()].concat();
+            assert!(!is_network(&kept));
+        }
+    }
 }
 
 #[test]
@@ -232,16 +264,28 @@ fn good_segment() -> Segment {
 
 /// Whether a town of this one segment is accepted; if not, the number is 4,
 /// and its bytes are no network.
-fn accepted(segment: Segment) -> bool {
-    let town = Town::new(2).with(segment);
+fn accepted(edition: u8, segment: Segment) -> bool {
+    let town = Town::new(2).edition(edition).with(segment);
     let answer = full(&town.text());
     assert!(matches!(answer, Ok(37) | Err((4, 2))), "{segment:?}");
     assert_eq!(is_network(&town.bytes()), answer.is_ok());
     answer.is_ok()
 }
 
-/// Sets a field to each number, and asks which are accepted.
+/// Sets a field to each number, and asks which are accepted, in both editions.
 fn field<T: Copy + std::fmt::Debug>(
+    numbers: impl IntoIterator<Item = T> + Clone,
+    set: impl Fn(&mut Segment, T),
+    good: impl Fn(T) -> bool,
+) {
+    for edition in EDITIONS {
+        field_of(edition, numbers.clone(), &set, &good);
+    }
+}
+
+/// The same in one edition.
+fn field_of<T: Copy + std::fmt::Debug>(
+    edition: u8,
     numbers: impl IntoIterator<Item = T>,
     set: impl Fn(&mut Segment, T),
     good: impl Fn(T) -> bool,
@@ -249,7 +293,8 @@ fn field<T: Copy + std::fmt::Debug>(
     for number in numbers {
         let mut segment = good_segment();
         set(&mut segment, number);
-        assert_eq!(accepted(segment), good(number), "{number:?} in {segment:?}");
+        let answer = accepted(edition, segment);
+        assert_eq!(answer, good(number), "{number:?}, {edition}: {segment:?}");
     }
 }
 
@@ -273,12 +318,30 @@ fn fields_of_the_street() {
     field(every.clone(), |s, n| s.lanes = n, |n| (1..=12).contains(&n));
     field(every.clone(), |s, n| s.speed = n, |n| (5..=85).contains(&n));
     field(every.clone(), |s, n| s.reach = n, |n| n <= 60);
-    field(every, |s, n| s.marks = n, |n| n <= 15);
+    // Edition 02 has a mark more, on a street of any form but a path.
+    for (edition, most) in [(OLDER, 15), (NEWER, 31)] {
+        field_of(edition, every.clone(), |s, n| s.marks = n, |n| n <= most);
+        let mixed = |s: &mut Segment, n| *s = s.street(0, 2, 25, 0, n);
+        field_of(edition, every.clone(), mixed, |n| n <= most);
+        let unparked = |s: &mut Segment, n| *s = s.street(2, 2, 25, 12, n);
+        field_of(edition, every.clone(), unparked, |n| n <= most);
+        field_of(
+            edition,
+            every.clone(),
+            |s, n| *s = s.street(3, 0, 0, 0, n),
+            |n| n == 0,
+        );
+    }
     // A path has lanes, speed, reach and marks 0.
     let path = path((0, 0), (1, 0));
-    assert!(accepted(path));
-    for one in [(1, 0, 0, 0), (0, 5, 0, 0), (0, 0, 1, 0), (0, 0, 0, 1)] {
-        assert!(!accepted(path.street(3, one.0, one.1, one.2, one.3)));
+    for edition in EDITIONS {
+        assert!(accepted(edition, path));
+        for one in [(1, 0, 0, 0), (0, 5, 0, 0), (0, 0, 1, 0), (0, 0, 0, 1)] {
+            assert!(!accepted(
+                edition,
+                path.street(3, one.0, one.1, one.2, one.3)
+            ));
+        }
     }
 }
 
@@ -308,12 +371,28 @@ fn fields_of_the_approaches() {
     );
     // The approach at A crosses nothing and has no turn lane.
     let zero = |n| n == 0;
-    field(every.clone(), |s, n| s.at_a.control = n, |n| n <= 1);
+    for (edition, signals) in [(OLDER, &[1][..]), (NEWER, &[1, 5])] {
+        let crosses_nothing = |n| n == 0 || signals.contains(&n);
+        let every = every.clone();
+        field_of(edition, every, |s, n| s.at_a.control = n, crosses_nothing);
+    }
     field(every.clone(), |s, n| s.at_a.lanes = n, zero);
     field(every.clone(), |s, n| s.at_a.speed = n, zero);
     field(every.clone(), |s, n| s.at_a.turn = n, zero);
     field(every, |s, n| s.at_a.turn_speed = n, zero);
     field(lengths, |s, n| s.at_a.turn_length = n, |n| n == 0);
+}
+
+/// Lanes and speed of a signal are 0, the improved one's too.
+#[test]
+fn fields_of_signals() {
+    for (control, lanes, speed) in [(1, 0, 0), (5, 0, 0), (5, 1, 0), (5, 0, 5), (5, 2, 25)] {
+        let crossed = Approach::crossing(control, lanes, speed);
+        let answer = accepted(NEWER, good_segment().at_b(crossed));
+        assert_eq!(answer, lanes + speed == 0, "{crossed:?}");
+        let answer = accepted(OLDER, good_segment().at_a(crossed));
+        assert_eq!(answer, control == 1, "{crossed:?}");
+    }
 }
 
 #[test]
@@ -323,7 +402,7 @@ fn damage_meets_its_number() {
     for seed in 0..400 {
         let shape = Shape::ALL[seed as usize % Shape::ALL.len()];
         let segments = rng.range(0, 40);
-        let town = draw::town(shape, seed, segments);
+        let town = draw::town_of(rng.pick(&EDITIONS), shape, seed, segments);
         assert!(is_network(&town.bytes()));
         for number in 1..=7 {
             for spot in Spot::ALL {
@@ -344,7 +423,7 @@ fn changed_texts() {
     for seed in 0..6_000 {
         let shape = Shape::ALL[seed as usize % Shape::ALL.len()];
         let segments = rng.range(0, 8);
-        let mut text = draw::town(shape, seed, segments).text();
+        let mut text = draw::town_of(rng.pick(&EDITIONS), shape, seed, segments).text();
         for _ in 0..rng.range(1, 3) {
             draw::change(&mut rng, &mut text);
         }
@@ -361,12 +440,15 @@ fn changed_fields() {
     for seed in 0..20_000 {
         let shape = Shape::ALL[seed as usize % Shape::ALL.len()];
         let segments = rng.range(1, 6);
-        let town = draw::town(shape, seed, segments);
+        let town = draw::town_of(rng.pick(&EDITIONS), shape, seed, segments);
         let mut frames = town.frames();
         let place = rng.below(frames.len());
         let frame = &mut frames[place];
         let at = rng.below(frame.len());
-        frame[at] = rng.pick(&[0, 1, 2, 3, 4, 5, 7, 8, 12, 13, 60, 61, 85, 86, 255]);
+        let number = rng.pick(&[
+            0, 1, 2, 3, 4, 5, 6, 7, 8, 12, 13, 16, 31, 32, 60, 61, 85, 86, 255,
+        ]);
+        frame[at] = number;
         draw::seal(frame);
         let kept = frames.concat();
         let number = full(&text_of(&frames)).map_or_else(|(number, _)| number, |_| 0);
@@ -386,7 +468,7 @@ fn kept_bytes() {
     for seed in 0..5_000 {
         let shape = Shape::ALL[seed as usize % Shape::ALL.len()];
         let segments = rng.range(0, 12);
-        let town = draw::town(shape, seed, segments);
+        let town = draw::town_of(rng.pick(&EDITIONS), shape, seed, segments);
         let net = town.bytes();
         assert!(is_network(&net) && Net::parse(&net).is_some());
         let bad = damage_kept(&mut rng, &town);

@@ -5,6 +5,7 @@ mod search;
 use oracle::Net;
 use search::{least_stress, route};
 use towns::draw::{self, Rng, Shape};
+use towns::edition::EDITIONS;
 use towns::lend::{Lengths, Lent};
 use towns::sizes::{MOST_BYTES, MOST_NODES, MOST_SEGMENTS};
 use towns::town::{Approach, Segment, Town, block_town, end};
@@ -91,6 +92,12 @@ impl Subject {
     }
 }
 
+/// A random town; its seed tells its edition too.
+fn some_town(shape: Shape, seed: u64, segments: usize) -> Town {
+    let edition = Rng::new(seed).pick(&EDITIONS);
+    draw::town_of(edition, shape, seed, segments)
+}
+
 /// Some thousands of small towns, every pair of nodes in the smallest; as many
 /// as the variable TOWNS says, if it is set.
 #[test]
@@ -104,7 +111,7 @@ fn small_towns() {
     for seed in 0..towns {
         let shape = Shape::ALL[seed as usize % Shape::ALL.len()];
         let segments = rng.range(0, 14);
-        let subject = Subject::new(draw::town(shape, seed, segments).bytes());
+        let subject = Subject::new(some_town(shape, seed, segments).bytes());
         let nodes = subject.oracle.nodes();
         let goals: Vec<usize> = if nodes <= 8 {
             (0..nodes).collect()
@@ -136,7 +143,7 @@ fn middle_towns() {
     for seed in 0..130 {
         let shape = Shape::ALL[seed as usize % Shape::ALL.len()];
         let segments = rng.range(60, 160);
-        let subject = Subject::new(draw::town(shape, 50_000 + seed, segments).bytes());
+        let subject = Subject::new(some_town(shape, 50_000 + seed, segments).bytes());
         let nodes = subject.oracle.nodes();
         for _ in 0..3 {
             let goals: Vec<usize> = (0..12).map(|_| rng.below(nodes)).collect();
@@ -150,7 +157,7 @@ fn middle_towns() {
 fn full_towns() {
     let mut rng = Rng::new(3);
     for (i, shape) in Shape::ALL.into_iter().enumerate() {
-        let town = draw::town(shape, 90_000 + i as u64, TOWN_SEGMENTS);
+        let town = some_town(shape, 90_000 + i as u64, TOWN_SEGMENTS);
         let subject = Subject::new(town.bytes());
         let nodes = subject.oracle.nodes();
         let goals: Vec<usize> = (0..20).map(|_| rng.below(nodes)).collect();
@@ -167,7 +174,7 @@ fn judgements() {
     for seed in 0..1_300 {
         let shape = Shape::ALL[seed as usize % Shape::ALL.len()];
         let segments = rng.range(0, 7);
-        let net = draw::town(shape, 70_000 + seed, segments).bytes();
+        let net = some_town(shape, 70_000 + seed, segments).bytes();
         let oracle = Net::parse(&net).expect("a network");
         for s in 0..oracle.segments() + 2 {
             assert_eq!(judge_segment(&net, s), oracle.segment(s));
@@ -193,8 +200,10 @@ fn drawn_towns() {
     let most = TOWN_SEGMENTS;
     for shape in Shape::ALL {
         for segments in [0, 1, 2, 3, 4, 10, 100, most - 1, most, 5 * most] {
-            let town = draw::town(shape, 7, segments);
-            assert!(is_network(&town.bytes()), "{shape:?} {segments}");
+            for edition in EDITIONS {
+                let town = draw::town_of(edition, shape, 7, segments);
+                assert!(is_network(&town.bytes()), "{shape:?} {segments}");
+            }
         }
     }
 }

@@ -6,7 +6,8 @@
 //! route2 route3 route4 least route-none map nearest; those with `-last` take
 //! the town's text with a wrong check in its last line, and `route-none` is
 //! asked for a node more, which no street leads to. SHAPE is `mixed`, the
-//! benchmark's grid, or a shape of town-gen.
+//! benchmark's grid, `mixed-02`, the same town of edition 02, or a shape of
+//! town-gen.
 
 use bench::clock::microseconds;
 use bench::{Call, Side, Subject};
@@ -14,15 +15,17 @@ use std::process::ExitCode;
 use towns::Town;
 use towns::draw::{self, Shape};
 use towns::program::{self, number};
+use towns::town::NEWER;
 
 /// Where the towns and questions come from, as in the benchmark.
 const SEED: u64 = 11;
 
 fn town(shape: &str, segments: usize) -> Option<Town> {
-    if shape == "mixed" {
-        return Some(draw::mixed_grid(SEED, segments));
+    match shape {
+        "mixed" => Some(draw::mixed_grid(SEED, segments)),
+        "mixed-02" => Some(draw::mixed_grid(SEED, segments).edition(NEWER)),
+        _ => Shape::from_name(shape).map(|shape| draw::town(shape, SEED, segments)),
     }
-    Shape::from_name(shape).map(|shape| draw::town(shape, SEED, segments))
 }
 
 fn parse(words: &[String]) -> Option<(Side, Call, Town, usize)> {

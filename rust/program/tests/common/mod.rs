@@ -10,8 +10,9 @@ use std::ffi::OsStr;
 use std::io::Write;
 use std::process::{Command, Output, Stdio};
 use towns::Town;
-use towns::draw::{Rng, Shape, town};
-use towns::town::{Approach, Segment};
+use towns::draw::{Rng, Shape, town_of};
+use towns::edition::EDITIONS;
+use towns::town::{Approach, OLDER, Segment};
 
 /// What the program said.
 #[derive(Debug)]
@@ -49,13 +50,16 @@ pub fn output<W: AsRef<OsStr>>(words: &[W], input: &[u8]) -> Output {
     })
 }
 
-/// Towns of every shape, with a generator of random numbers for each.
+/// Towns of every shape and edition, with a generator of random numbers for
+/// each.
 pub fn some_towns(times: u64) -> impl Iterator<Item = (Rng, Town)> {
-    (0..times * Shape::ALL.len() as u64).map(|seed| {
+    let seeds = 0..times * Shape::ALL.len() as u64;
+    let kinds = seeds.flat_map(|seed| EDITIONS.map(|edition| (seed, edition)));
+    kinds.map(|(seed, edition)| {
         let mut rng = Rng::new(seed);
         let size = rng.range(1, 30);
         let shape = Shape::ALL[seed as usize % Shape::ALL.len()];
-        (rng, town(shape, 800 + seed, size))
+        (rng, town_of(edition, shape, 800 + seed, size))
     })
 }
 
@@ -198,6 +202,10 @@ pub const GRID: Place = |node| (node % 30 * 400 - 3_000, node / 30 * 300);
 /// if there is one.
 pub fn table(town: &Town, map: Option<Place>) -> String {
     let mut table = "# Some town\n\nWords that say nothing.\n\n".to_string();
+    // A town without it is of edition 01.
+    if town.edition != OLDER || town.nodes.is_multiple_of(2) {
+        table += &format!("| edition |\n|---|\n| {:02} |\n\n", town.edition);
+    }
     table += match map {
         Some(_) => "| node | place | x | y |\n|---|---|---|---|\n",
         None => "| node | place |\n|---|---|\n",
@@ -227,8 +235,14 @@ fn row(number: usize, segment: &Segment) -> String {
     } = segment;
     let form = ["mixed", "beside parking", "bike lane", "path"][usize::from(segment.form)];
     let ways = ["A to B", "B to A", "both"][usize::from(segment.ways) - 1];
-    let names = ["centreline", "residential", "median", "blocked"];
-    let marked = (0..4).filter(|bit| segment.marks >> bit & 1 == 1);
+    let names = [
+        "centreline",
+        "residential",
+        "median",
+        "blocked",
+        "turn lane",
+    ];
+    let marked = (0..names.len()).filter(|bit| segment.marks >> bit & 1 == 1);
     let marks: Vec<&str> = marked.map(|bit| names[bit]).collect();
     let marks = if marks.is_empty() {
         "-".into()
@@ -248,9 +262,17 @@ fn row(number: usize, segment: &Segment) -> String {
 }
 
 fn approach(met: &Approach) -> String {
-    let control = ["nothing", "signal", "no island", "island", "one-way"][usize::from(met.control)];
+    let controls = [
+        "nothing",
+        "signal",
+        "no island",
+        "island",
+        "one-way",
+        "improved signal",
+    ];
+    let control = controls[usize::from(met.control)];
     let crossed = match met.control {
-        0 | 1 => control.to_string(),
+        0 | 1 | 5 => control.to_string(),
         _ => format!("{control} {} lanes {} mph", met.lanes, met.speed),
     };
     let kind = ["", "straight", "shifts left", "no bike lane"][usize::from(met.turn)];

@@ -1,9 +1,10 @@
 //! Deliberate damage to texts and to kept bytes.
 
 use super::Rng;
+use crate::edition::{NO_EDITIONS, all_marks, last_control, uncrossed};
 use crate::sizes::{HEAD, SEGMENT};
 use crate::sizes::{MOST_BYTES, MOST_FEET, MOST_NODES, MOST_SEGMENTS, MOST_TURN_FEET};
-use crate::town::{SEGMENT_KIND, Town, check, head, line, text_of};
+use crate::town::{SEGMENT_KIND, TURN_LANE, Town, check, head_of, line, text_of};
 
 /// Which line a damage shall hit.
 #[derive(Clone, Copy, Debug, PartialEq, Eq)]
@@ -48,6 +49,7 @@ pub fn seal(frame: &mut [u8]) {
 
 /// The frames of a town and where to damage them.
 struct Site {
+    edition: u8,
     frames: Vec<Vec<u8>>,
     spot: Spot,
     /// The frame to damage, counted from 0.
@@ -68,6 +70,7 @@ pub fn damage(rng: &mut Rng, town: &Town, number: u8, spot: Spot) -> Option<Dama
         Spot::Last => frames.len() - 1,
     };
     let site = Site {
+        edition: town.edition,
         frames,
         spot,
         place,
@@ -136,7 +139,11 @@ impl Site {
                 "bytes more"
             }
             3 => {
-                *frame = if first { blank_segment() } else { head(1, 0) };
+                *frame = if first {
+                    blank_segment()
+                } else {
+                    head_of(self.edition, 1, 0)
+                };
                 "the other frame"
             }
             _ => {
@@ -154,7 +161,7 @@ impl Site {
         let what = if self.place == 0 {
             spoil_head(rng, frame)
         } else {
-            spoil_segment(rng, frame, nodes)
+            spoil_segment(rng, frame, nodes, self.edition)
         };
         seal(frame);
         self.faulty(what)
@@ -171,7 +178,7 @@ impl Site {
                 let first = self.spot == Spot::First;
                 let fewer = if first { 0 } else { segments / 2 };
                 let nodes = u16::from_be_bytes([self.frames[0][2], self.frames[0][3]]);
-                self.frames[0] = head(nodes, u16::try_from(fewer).ok()?);
+                self.frames[0] = head_of(self.edition, nodes, u16::try_from(fewer).ok()?);
                 (fewer + 2, "a head with fewer segments")
             }
             _ if segments > 0 && rng.chance(50) => {
@@ -325,7 +332,7 @@ fn too_many(rng: &mut Rng, most: usize) -> [u8; 2] {
 fn spoil_head(rng: &mut Rng, frame: &mut [u8]) -> &'static str {
     match rng.below(5) {
         0 => {
-            frame[1] = rng.pick(&[0, 2, 255]);
+            frame[1] = rng.pick(&NO_EDITIONS);
             "edition"
         }
         1 => {
@@ -343,14 +350,14 @@ fn spoil_head(rng: &mut Rng, frame: &mut [u8]) -> &'static str {
     }
 }
 
-/// Puts a field of a good segment frame out of order; the check is left as
-/// it was.
-fn spoil_segment(rng: &mut Rng, frame: &mut [u8], nodes: [u8; 2]) -> &'static str {
+/// Puts a field of a good segment frame of an edition out of order; the check
+/// is left as it was.
+fn spoil_segment(rng: &mut Rng, frame: &mut [u8], nodes: [u8; 2], edition: u8) -> &'static str {
     let approach = rng.pick(&[15, 22]);
     match rng.below(20) {
         field @ 0..=4 => spoil_ends(rng, frame, nodes, field),
-        field @ 5..=10 => spoil_form(rng, frame, field),
-        field @ 11..=15 => spoil_crossing(rng, &mut frame[approach..], field),
+        field @ 5..=10 => spoil_form(rng, frame, field, edition),
+        field @ 11..=15 => spoil_crossing(rng, &mut frame[approach..], field, edition),
         field => spoil_turn_lane(rng, &mut frame[approach..], field),
     }
 }
@@ -380,8 +387,9 @@ fn spoil_ends(rng: &mut Rng, frame: &mut [u8], nodes: [u8; 2], field: usize) -> 
     }
 }
 
-fn spoil_form(rng: &mut Rng, frame: &mut [u8], field: usize) -> &'static str {
+fn spoil_form(rng: &mut Rng, frame: &mut [u8], field: usize, edition: u8) -> &'static str {
     let (path, mixed) = (frame[9] == 3, frame[9] == 0);
+    let over = all_marks(edition) + 1;
     let (at, bad, what): (usize, &[u8], &str) = match field {
         5 => (9, &[4, 5, 255], "form"),
         6 => (10, &[0, 4, 5, 255], "ways"),
@@ -391,26 +399,27 @@ fn spoil_form(rng: &mut Rng, frame: &mut [u8], field: usize) -> &'static str {
         8 => (12, &[0, 4, 86, 255], "speed"),
         9 if path || mixed => (13, &[1, 60], "reach"),
         9 => (13, &[61, 255], "reach"),
-        _ if path => (14, &[1, 8, 16], "marks"),
-        _ => (14, &[16, 17, 128, 255], "marks"),
+        _ if path => (14, &[1, 8, TURN_LANE], "marks"),
+        _ => (14, &[over, over + 1, 128, 255], "marks"),
     };
     frame[at] = rng.pick(bad);
     what
 }
 
-fn spoil_crossing(rng: &mut Rng, approach: &mut [u8], field: usize) -> &'static str {
+fn spoil_crossing(rng: &mut Rng, approach: &mut [u8], field: usize, edition: u8) -> &'static str {
+    let over = last_control(edition) + 1;
     match field {
         11 => {
-            approach[0] = rng.pick(&[5, 6, 255]);
+            approach[0] = rng.pick(&[over, over + 1, 255]);
             "control"
         }
         12 => {
-            approach[0] = rng.pick(&[0, 1]);
+            approach[0] = rng.pick(uncrossed(edition));
             approach[1] = rng.pick(&[1, 255]);
             "lanes though nothing is crossed"
         }
         13 => {
-            approach[0] = rng.pick(&[0, 1]);
+            approach[0] = rng.pick(uncrossed(edition));
             approach[1] = 0;
             approach[2] = rng.pick(&[5, 255]);
             "speed though nothing is crossed"
@@ -480,8 +489,7 @@ pub fn damage_kept(rng: &mut Rng, town: &Town) -> Vec<u8> {
             seal(&mut bad[0]);
         }
         5 if segments > 0 => {
-            let nodes = u16::from_be_bytes([bad[0][2], bad[0][3]]);
-            bad[0] = head(nodes, (segments - 1) as u16);
+            bad[0] = head_of(town.edition, town.nodes, (segments - 1) as u16);
         }
         6 if segments > 0 => share_corner(&mut bad, (place.max(1), 1), (place.max(1), 4)),
         7 if segments > 1 => {
@@ -490,7 +498,7 @@ pub fn damage_kept(rng: &mut Rng, town: &Town) -> Vec<u8> {
         }
         _ if segments > 0 => {
             let (place, nodes) = (place.max(1), [bad[0][2], bad[0][3]]);
-            spoil_segment(rng, &mut bad[place], nodes);
+            spoil_segment(rng, &mut bad[place], nodes, town.edition);
             seal(&mut bad[place]);
         }
         _ => return Vec::new(),

@@ -1,8 +1,9 @@
 //! How the fields of a random town's streets are drawn.
 
 use super::Rng;
+use crate::edition::all_marks;
 use crate::sizes::{MOST_FEET, MOST_TURN_FEET};
-use crate::town::{Approach, End, Segment};
+use crate::town::{Approach, End, IMPROVED_SIGNAL, MEDIAN, OLDER, RESIDENTIAL, Segment, TURN_LANE};
 
 /// How the fields of a town's streets are drawn.
 #[derive(Clone, Copy, Debug, PartialEq, Eq)]
@@ -22,6 +23,8 @@ pub(super) enum Style {
 }
 
 pub(super) struct Fields {
+    /// Which values there are to draw.
+    pub edition: u8,
     pub style: Style,
     /// Percent of streets open one way only.
     pub one_way: usize,
@@ -29,13 +32,17 @@ pub(super) struct Fields {
     pub lengths: Option<&'static [u16]>,
 }
 
+/// Marks that most gentle streets have at most.
+const QUIET: u8 = RESIDENTIAL | MEDIAN | TURN_LANE;
+
 pub(super) const TIED: [u16; 1] = [100];
 pub(super) const HALVES: [u16; 3] = [100, 200, 300];
 pub(super) const BLOCKS: [u16; 6] = [150, 264, 300, 330, 528, 660];
 
 impl Fields {
-    pub fn draw(rng: &mut Rng) -> Fields {
+    pub fn draw(rng: &mut Rng, edition: u8) -> Fields {
         Fields {
+            edition,
             style: rng.pick(&[
                 Style::Paths,
                 Style::Gentle,
@@ -80,7 +87,7 @@ impl Fields {
     }
 
     fn traffic(&self, rng: &mut Rng, form: u8) -> (u8, u8, u8, u8) {
-        let marks = rng.below(16) as u8;
+        let marks = rng.below(1 + usize::from(all_marks(self.edition))) as u8;
         match self.style {
             Style::Gentle | Style::Crossings => (
                 rng.pick(&[1, 1, 1, 2, 2, 3]),
@@ -90,7 +97,7 @@ impl Fields {
                 } else {
                     rng.range(9, 16) as u8
                 },
-                if rng.chance(20) { marks } else { marks & 6 },
+                if rng.chance(20) { marks } else { marks & QUIET },
             ),
             Style::Mixed => (
                 rng.pick(&[1, 1, 2, 2, 2, 3, 4, 5, 6]),
@@ -143,7 +150,8 @@ impl Fields {
             _ => rng.range(0, 4) as u8,
         };
         if control < 2 {
-            return Approach::crossing(control, 0, 0);
+            let improved = self.edition != OLDER && rng.chance(40);
+            return Approach::crossing(if improved { IMPROVED_SIGNAL } else { control }, 0, 0);
         }
         let (lanes, speed) = match self.style {
             Style::Gentle => (rng.range(1, 4) as u8, rng.pick(&[15, 20, 25, 30, 35])),

@@ -3,7 +3,7 @@
 use super::fields::{BLOCKS, Fields, HALVES, Style, TIED};
 use super::{Rng, Shape};
 use crate::sizes::{MOST_NODES, MOST_SEGMENTS};
-use crate::town::{End, Segment, Town, end};
+use crate::town::{End, OLDER, Segment, Town, end};
 
 /// A town in the making: which legs are still free.
 struct Plan {
@@ -17,7 +17,7 @@ impl Plan {
     fn new(nodes: usize, fields: Fields, wanted: usize) -> Plan {
         let nodes = nodes.clamp(1, MOST_NODES);
         Plan {
-            town: Town::new(nodes as u16),
+            town: Town::new(nodes as u16).edition(fields.edition),
             used: vec![0; nodes],
             fields,
             wanted,
@@ -99,14 +99,20 @@ impl Plan {
     }
 }
 
-/// A random town: of the shape, from the seed, with about so many segments.
+/// A random town of edition 01: of the shape, from the seed, with about so many
+/// segments.
 ///
 /// More than a town or the shape allows are cut: a tree has one segment less
 /// than nodes, a single node at most 4.
 pub fn town(shape: Shape, seed: u64, segments: usize) -> Town {
+    town_of(OLDER, shape, seed, segments)
+}
+
+/// The same of an edition that exists, with the values that it has.
+pub fn town_of(edition: u8, shape: Shape, seed: u64, segments: usize) -> Town {
     let rng = &mut Rng::new(seed ^ (shape as u64) << 48);
     let wanted = segments.min(MOST_SEGMENTS);
-    let fields = Fields::draw(rng);
+    let fields = Fields::draw(rng, edition);
     match shape {
         // A late parent makes deep trees, any parent shallow ones.
         Shape::Tree => tree(rng, fields, wanted, seed.is_multiple_of(2)),
@@ -122,7 +128,7 @@ pub fn town(shape: Shape, seed: u64, segments: usize) -> Town {
         Shape::Single => filled(rng, fields, 1, wanted),
         Shape::Empty => {
             let most = MOST_NODES as u16;
-            Town::new(rng.pick(&[1, 2, 10, 255, 256, most - 1, most]))
+            Town::new(rng.pick(&[1, 2, 10, 255, 256, most - 1, most])).edition(edition)
         }
         Shape::Sparse => sparse(rng, fields, wanted),
     }
@@ -229,6 +235,7 @@ fn sparse(rng: &mut Rng, fields: Fields, wanted: usize) -> Town {
 pub fn mixed_grid(seed: u64, segments: usize) -> Town {
     let mut rng = Rng::new(seed);
     let fields = |style| Fields {
+        edition: OLDER,
         style,
         one_way: 10,
         lengths: Some(&BLOCKS),

@@ -5,7 +5,10 @@ use oracle::MOST_INPUT;
 use std::io;
 use towns::draw::{self, Rng, Shape, Spot, damage};
 use towns::sizes::MOST_SEGMENTS;
-use towns::town::{CENTRELINE, Segment, Town, block_town, check, end, head, line};
+use towns::town::{
+    Approach, CENTRELINE, IMPROVED_SIGNAL, NEWER, OLDER, SIGNAL, Segment, TURN_LANE, Town,
+    block_town, check, end, head, line,
+};
 
 pub fn write(out: &Folder) -> io::Result<()> {
     let printed = Town::new(2)
@@ -19,6 +22,7 @@ pub fn write(out: &Folder) -> io::Result<()> {
     inner_lines(out)?;
     order_within_a_line(out)?;
     each_number(out)?;
+    two_editions(out)?;
     let thousand = whole_towns(out)?;
     round_the_limit(out, &thousand)
 }
@@ -99,9 +103,28 @@ fn order_within_a_line(out: &Folder) -> io::Result<()> {
     let at = text.len() - 10;
     text[at] = b'g';
     out.refused("order-1-2-3-5-4-6", &text, 1, 3)?;
-    let mut edition = vec![1, 2, 0, 0, 9, 9];
+    let mut edition = vec![1, 4, 0, 0, 9, 9];
     edition.push(check(&edition));
     out.refused("edition", &line(&edition), 4, 1)
+}
+
+/// A street with the values of edition 02, in each edition; and the first values
+/// that edition 02 has not.
+fn two_editions(out: &Folder) -> io::Result<()> {
+    let street = |marks: u8, control: u8| {
+        let lane = Segment::path(end(0, 2), end(1, 6), 500).street(1, 1, 26, 24, marks);
+        Town::new(2).with(lane.at_b(Approach::crossing(control, 0, 0)))
+    };
+    let text = |edition: u8, marks: u8, control: u8| street(marks, control).edition(edition).text();
+    out.put(
+        "edition-02",
+        &text(NEWER, CENTRELINE + TURN_LANE, IMPROVED_SIGNAL),
+    )?;
+    out.put("edition-01", &text(OLDER, CENTRELINE, SIGNAL))?;
+    out.refused("turn-lane-in-01", &text(OLDER, TURN_LANE, SIGNAL), 4, 2)?;
+    out.refused("control-5-in-01", &text(OLDER, 0, IMPROVED_SIGNAL), 4, 2)?;
+    out.refused("marks-32-in-02", &text(NEWER, 32, SIGNAL), 4, 2)?;
+    out.refused("control-6-in-02", &text(NEWER, 0, 6), 4, 2)
 }
 
 /// Each number a program can meet, at the first, a middle, the last line.

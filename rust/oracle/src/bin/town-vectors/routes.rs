@@ -4,7 +4,7 @@ use crate::{Folder, nodes_alone};
 use std::io;
 use towns::draw::{self, Shape};
 use towns::sizes::MOST_SEGMENTS;
-use towns::town::{Approach, RESIDENTIAL, Segment, Town, block_town, end, linden};
+use towns::town::{Approach, OLDER, RESIDENTIAL, Segment, Town, block_town, end, linden, westerby};
 
 pub fn write(out: &Folder) -> io::Result<()> {
     let mut one_way = block_town();
@@ -17,6 +17,8 @@ pub fn write(out: &Folder) -> io::Result<()> {
         ("none", none()),
         ("linden", linden()),
         ("linden-busy", busy(linden())),
+        ("westerby", westerby()),
+        ("westerby-01", westerby().edition(OLDER)),
         ("single-node", Town::new(1)),
         ("single-node-loops", draw::town(Shape::Single, 4, 4)),
         ("no-segments", nodes_alone()),
