@@ -7,15 +7,15 @@ use Rattle.std.proofs.Common.{rules, Some, nat_cmp}
 use Rattle.std.proofs.lemmas.Bool.Decides.{nat_tests}
 use Prim.Native.Nat.{ℕ, ◌≤◌}
 use mathlib.Core.Bool.{Bool, true, false, ◌&&◌, ◌||◌}
-use mathlib.Core.Path.{◌≡◌, refl, sym}
+use mathlib.Core.Path.{◌≡◌, ap}
 use mathlib.Core.List.{List}
 use native.Mathlib.Omega.{arith}
 use lib.Dec.{leb, eqb}
 use borrow.Author.Tests.{leb-true}
 use Rattle.lists.proofs.Facts.{and_true}
-use Rattle.frames.specs.Edition.{most_turn_feet, marks_ok, crosses_nothing}
+use Rattle.frames.specs.Edition.{most_turn_feet, is_newer, marks_ok, crosses_nothing}
 use Rattle.frames.specs.Frame.{marks, control, turn_kind, turn_feet, turning_speed, approach_b, approach_a}
-use Rattle.frames.specs.Ranges.{within, form_ok, crossing_ok, no_lane, turn_lane_ok, approach_ok, street_by}
+use Rattle.frames.specs.Ranges.{within, form_ok, crossing_ok, no_lane, turn_lane_ok, approach_ok, street_by, street_ok}
 
 pub within_low : (lo hi x : ℕ) → within lo hi x ≡ true → lo ≤ x
 within_low lo hi x e = leb-true lo x (and_true (leb lo x) (leb x hi) e).0
@@ -74,11 +74,6 @@ module _ (f : List ℕ) where
       let a = newer_approach (approach_a e) in
       grind (arith, nat_tests)
 
--- so the older ones are asked first, and the newer ones where the edition has them
-pub street_older : (e : ℕ) (f : List ℕ) (newer : Bool) → street_by false e f ≡ true → street_by newer e f ≡ true
-street_older e f false h = h
-street_older e f true h = newer_street f e h
-
-pub street_newer : (e : ℕ) (f : List ℕ) (newer : Bool) → street_by false e f ≡ false → (newer && street_by true e f) ≡ street_by newer e f
-street_newer e f false h = sym h
-street_newer e f true h = refl
+-- the rules that an edition has are its own
+pub own_rules : (e : ℕ) (f : List ℕ) (newer : Bool) → newer ≡ is_newer e → street_by newer e f ≡ street_ok e f
+own_rules e f newer h = ap (λ (n : Bool). street_by n e f) h

@@ -1,6 +1,6 @@
 // The ranges and rules of a head's and a segment's fields.
-ghost use Rattle.std.specs.Prelude.{◌+◌, ◌≤◌, ◌<◌, ◌≡◌, true, ◌&&◌, length};
-ghost use Rattle.frames.specs.Edition.{segment_bytes, frame_bytes, is_newer};
+ghost use Rattle.std.specs.Prelude.{◌+◌, ◌≤◌, ◌<◌, ◌≡◌, length};
+ghost use Rattle.frames.specs.Edition.{segment_bytes};
 ghost use Rattle.frames.specs.Frame.{head_bytes};
 ghost use Rattle.frames.specs.Ranges.{head_ok, ends_ok, form_ok, crossing_ok, no_lane, turn_lane_ok, approach_ok, street_by, street_ok};
 
@@ -113,7 +113,7 @@ impl Frame<'_> {
     // All that the frame has after its ends, by the older rules or by the newer ones. A frame that is refused is rare, so each test is a branch of its own,
     // which costs the others nothing.
     #[tactic(auto, using(crate::proofs::RangeLaws::contains_within), unfolding(crate::specs::Ranges::street_by))]
-    fn street_by<const NEWER: bool>(&self) -> bool
+    pub fn street_by<const NEWER: bool>(&self) -> bool
         ensures { result ≡ street_by NEWER self.now.edition self.now.bytes.now }
     {
         let x = extra_of(self.edition);
@@ -127,23 +127,14 @@ impl Frame<'_> {
             && self.approach_ok::<NEWER>(x + fields::APPROACH_A)
     }
 
-    // The same by the rules of the edition. What the older ones allow, the newer ones do: they are asked first, whatever the edition. It is always inlined:
-    // a caller then keeps no frame in memory for the second question.
+    // The same by the rules of the edition. It is always inlined: a caller then keeps no frame in memory.
     #[inline(always)]
-    #[tactic(auto, using(crate::proofs::RangeLaws::street_older, crate::proofs::RangeLaws::street_newer))]
     pub fn street_ok(&self) -> bool
         ensures { result ≡ street_ok self.now.edition self.now.bytes.now }
     {
-        self.street_by::<false>() || newer_street_ok(self.bytes, self.edition)
+        if is_newer(self.edition) {
+            return self.street_by::<true>();
+        }
+        self.street_by::<false>()
     }
-}
-
-// What a frame has after its ends is right by the newer rules, and its edition has them. It is never inlined: edition 01 pays nothing for it.
-#[cold]
-#[inline(never)]
-fn newer_street_ok(bytes: &[u8], edition: u8) -> bool
-    requires { frame_bytes edition ≤ length bytes.now }
-    ensures { result ≡ (is_newer edition && street_by true edition bytes.now) }
-{
-    is_newer(edition) && Frame { bytes, edition }.street_by::<true>()
 }

@@ -1,6 +1,6 @@
 // Test 8: bytes that Read could keep.
 ghost use Rattle.std.specs.Prelude.{◌+◌, ◌*◌, ◌≤◌, ◌<◌, ◌≡◌, [], true, length, drop};
-ghost use Rattle.frames.specs.Edition.{frame_bytes};
+ghost use Rattle.frames.specs.Edition.{frame_bytes, is_newer};
 ghost use Rattle.frames.specs.Frame.{head_bytes};
 ghost use Rattle.frames.specs.Steps.Sizes.{county_size, Limited};
 ghost use Rattle.network.specs.Network.{is_network};
@@ -11,7 +11,7 @@ ghost use Rattle.network.specs.Steps.Checks.{HeadFits, FewNodes, Awaits, AwaitsR
 use crate::corners::enter_runs;
 use crate::legs::{claim_legs, ends_of, no_legs};
 use frames::decoded::head_of;
-use frames::edition::frame_bytes;
+use frames::edition::{frame_bytes, is_newer};
 use frames::frame::{Frame, is_framed};
 use frames::ranges::{ends_ok, head_ok};
 use frames::sizes::is_town;
@@ -30,8 +30,8 @@ pub fn kept_bytes(head: Head) -> usize
 // to be filled. What the street has is tested last, by a call: nothing of the ends has to be kept across it. This function is always inlined: one call more
 // for each segment would cost the pass a seventh.
 #[inline(always)]
-#[tactic(auto, using(crate::proofs::FaultLaws::line_and, crate::proofs::CornerLaws::runs_room, frames::proofs::FrameLaws::end_limits, frames::proofs::EditionLaws::frame_least))]
-fn take_segment<const INDEXED: bool>(
+#[tactic(auto, using(crate::proofs::FaultLaws::line_and, crate::proofs::CornerLaws::runs_room, frames::proofs::FrameLaws::end_limits, frames::proofs::EditionLaws::frame_least, frames::proofs::RangeLaws::own_rules))]
+fn take_segment<const INDEXED: bool, const NEWER: bool>(
     f: &[u8],
     head: Head,
     s: usize,
@@ -39,7 +39,7 @@ fn take_segment<const INDEXED: bool>(
     index: &mut [u16],
 ) -> bool
     requires { (length f.now ≡ frame_bytes head.edition) × HeadFits head legs.old × (s < head.segments)
-        × (INDEXED ≡ true → head.nodes * 8 ≤ length index.old) }
+        × (INDEXED ≡ true → head.nodes * 8 ≤ length index.old) × (NEWER ≡ is_newer head.edition) }
     ensures { SegmentChecked INDEXED f.now head s legs.old legs.new index.old index.new result }
 {
     if !is_framed(f, fields::SEGMENT_KIND) {
@@ -59,11 +59,32 @@ fn take_segment<const INDEXED: bool>(
         bytes: f,
         edition: head.edition,
     };
-    frame.street_ok()
+    frame.street_by::<NEWER>()
 }
 
-// The one pass over the segments: the frames after the head follow the rules, and no leg is taken twice; then the bytes have all used legs, and an index that
+// The one pass over the segments: the frames after the head follow the older rules or the newer, and no leg is taken twice; then the bytes have all used legs, and an index that
 // is to be filled has all runs.
+fn frames_by<const INDEXED: bool, const NEWER: bool>(
+    net: &[u8],
+    head: Head,
+    legs: &mut [u8],
+    index: &mut [u16],
+) -> bool
+    requires { (length net.now ≡ head_bytes + frame_bytes head.edition * head.segments) × Limited head
+        × Gathered head.nodes [] legs.old × FramesIndexed INDEXED head.nodes [] index.old × (NEWER ≡ is_newer head.edition) }
+    ensures { FramesChecked INDEXED head (drop head_bytes net.now) legs.new index.new result }
+{
+    let size = frame_bytes(head.edition);
+    for s in 0..head.segments {
+        let at = fields::HEAD_BYTES + size * s;
+        if !take_segment::<INDEXED, NEWER>(&net[at..at + size], head, s, legs, index) {
+            return false;
+        }
+    }
+    true
+}
+
+// The same by the rules of the head's edition: a loop for the older ones and one for the newer, so that edition 01 pays nothing for the other.
 fn frames_ok<const INDEXED: bool>(
     net: &[u8],
     head: Head,
@@ -74,14 +95,10 @@ fn frames_ok<const INDEXED: bool>(
         × Gathered head.nodes [] legs.old × FramesIndexed INDEXED head.nodes [] index.old }
     ensures { FramesChecked INDEXED head (drop head_bytes net.now) legs.new index.new result }
 {
-    let size = frame_bytes(head.edition);
-    for s in 0..head.segments {
-        let at = fields::HEAD_BYTES + size * s;
-        if !take_segment::<INDEXED>(&net[at..at + size], head, s, legs, index) {
-            return false;
-        }
+    if is_newer(head.edition) {
+        return frames_by::<INDEXED, true>(net, head, legs, index);
     }
-    true
+    frames_by::<INDEXED, false>(net, head, legs, index)
 }
 
 // Whether the bytes are a network that Read could keep; then the bytes lent have its used legs, and an index that is to be filled has its runs.

@@ -4,7 +4,7 @@ use mathlib.Core.Bool.{not}
 use lib.Dec.{eqb}
 use lib.ListN.{length}
 use Rattle.network.proofs.FramesChecked.{Going}
-use Rattle.network.proofs.kept.frames_ok.Given as goal
+use Rattle.network.proofs.kept.frames_by.Given as goal
 
 abbrev pub invariant-loop-s : goal.invariant-loop-s
 invariant-loop-s g l =

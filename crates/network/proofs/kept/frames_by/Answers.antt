@@ -1,7 +1,7 @@
 -- The loop's invariant is `Going` of FramesChecked.antt; the part that each turn lends is the frame of segment s.
 use mathlib.Core.Path.{refl, ◌∙◌}
 use Rattle.network.proofs.FramesChecked.{starts, goes_on, ends, fails}
-use Rattle.network.proofs.kept.frames_ok.Goals as goal
+use Rattle.network.proofs.kept.frames_by.Goals as goal
 
 pub loop-s-init : goal.loop-s-init
 loop-s-init g c =
