@@ -2,13 +2,13 @@
 -- rules, so the two street graphs are each nowhere worse than the other.
 -- Assumes nothing.
 use Prim.Native.Nat.{ℕ, ◌≤◌, ◌<◌}
-use mathlib.Core.Path.{◌≡◌, refl, subst}
+use mathlib.Core.Path.{◌≡◌, subst}
 use mathlib.Core.Bool.{true, false}
 use mathlib.Core.List.{List}
 use mathlib.Core.Logic.{◌↔◌}
 use native.Mathlib.Omega.{arith}
 use Rattle.std.proofs.lemmas.Bool.Decides.{nat_tests}
-use Rattle.routes.specs.NowhereWorse.{SameGround, NowhereWorse}
+use Rattle.routes.specs.NowhereWorse.{NowhereWorse}
 use Rattle.routes.specs.Routes.{Within}
 use Rattle.routes.proofs.NowhereWorse.{within_too}
 use Rattle.frames.specs.Edition.{is_newer, extra, length_bytes, most_feet, marks_ok, crosses_nothing}
@@ -18,10 +18,11 @@ use Rattle.frames.proofs.RangeLaws.{newer_street}
 use Rattle.network.specs.Network.{edition_of, segments_of, frame_of, is_network}
 use Rattle.network.proofs.NetworkLaws.{frame_follows}
 use Rattle.stress.proofs.NewerRulesHold.{newer_rules}
-use Rattle.streets.specs.Bicycle.{bicycle}
+use Rattle.streets.specs.Bicycle.{run_level, movement_level, bicycle}
 use Rattle.streets.specs.Editions.{AsBefore}
-use Rattle.streets.specs.OlderBicycle.{older_bicycle}
+use Rattle.streets.specs.OlderBicycle.{older_run_level, older_movement_level, older_bicycle}
 use Rattle.streets.proofs.EditionsHold.{editions}
+use Rattle.streets.proofs.GroundLaws.{no_higher}
 use Rattle.splicereel.specs.NoteFive.{NoNewValue, NoteFive}
 use Rattle.splicereel.proofs.DemandThreeHolds.{demand_three}
 
@@ -54,29 +55,15 @@ allowed f h = newer_street f 1 h
 
 -- ---- the routes of edition 01
 module _ (net : List ℕ) (before : AsBefore net) where
-  ground : SameGround (bicycle net) (older_bicycle net)
-  ground = record { runs = refl; starts = λ r l. refl; finishes = λ r l. refl; lengths = λ r l. refl; joined = λ p q l m. refl }
-
-  back : SameGround (older_bicycle net) (bicycle net)
-  back = record { runs = refl; starts = λ r l. refl; finishes = λ r l. refl; lengths = λ r l. refl; joined = λ p q l m. refl }
-
   no_worse : NowhereWorse (bicycle net) (older_bicycle net)
   no_worse =
-      record {
-        ground = ground;
-        opens = λ r o. o.1;
-        runs_no_higher = λ r l. omega (arith, before.run r);
-        turns_no_higher = λ p q m. omega (arith, before.movement p q);
-      }
+      no_higher net (run_level net) (older_run_level net) (movement_level net) (older_movement_level net)
+      (λ r. omega (arith, before.run r)) (λ p q. omega (arith, before.movement p q))
 
   no_better : NowhereWorse (older_bicycle net) (bicycle net)
   no_better =
-      record {
-        ground = back;
-        opens = λ r o. o.1;
-        runs_no_higher = λ r l. omega (arith, before.run r);
-        turns_no_higher = λ p q m. omega (arith, before.movement p q);
-      }
+      no_higher net (older_run_level net) (run_level net) (older_movement_level net) (movement_level net)
+      (λ r. omega (arith, before.run r)) (λ p q. omega (arith, before.movement p q))
 
   same_routes : {t a b : ℕ} (rs : List ℕ) → Within (bicycle net) t a b rs ↔ Within (older_bicycle net) t a b rs
   same_routes rs = (within_too no_better, within_too no_worse)
