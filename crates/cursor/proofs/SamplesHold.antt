@@ -1,7 +1,7 @@
 -- The samples hold, by computation.
 -- Assumes nothing.
 use mathlib.Core.Path.{refl}
-use Rattle.frames.specs.Edition.{edition_ok, is_newer, most_nodes, most_segments, extra, length_bytes, frame_bytes, most_feet, marks_ok, crosses_nothing}
+use Rattle.frames.specs.Edition.{edition_ok, is_newer, is_wide, most_nodes, most_segments, extra, length_bytes, frame_bytes, most_feet, marks_ok, crosses_nothing}
 use Rattle.frames.specs.Frame.{number, total, check_ok, feet}
 use Rattle.frames.specs.Ranges.{head_ok, ends_ok, form_ok, crossing_ok, turn_lane_ok, approach_ok, street_by}
 use Rattle.frames.specs.Faults.{framed, head_fault}
@@ -14,7 +14,7 @@ use Rattle.cursor.specs.Cursor.{cursor_of}
 use Rattle.cursor.specs.Samples.{Samples}
 
 pub samples : Samples
-unfolding is_digit digit line_of edition_ok is_newer most_nodes most_segments extra length_bytes frame_bytes most_feet marks_ok crosses_nothing number total check_ok feet head_ok ends_ok form_ok crossing_ok turn_lane_ok approach_ok street_by is_in legs_free framed head_fault segment_fault segment_lines read_of first_line after_line after_lines cursor_of
+unfolding is_digit digit line_of edition_ok is_newer is_wide most_nodes most_segments extra length_bytes frame_bytes most_feet marks_ok crosses_nothing number total check_ok feet head_ok ends_ok form_ok crossing_ok turn_lane_ok approach_ok street_by is_in legs_free framed head_fault segment_fault segment_lines read_of first_line after_line after_lines cursor_of
 samples =
     record {
       in_first_line = refl;

@@ -1,5 +1,5 @@
-// The same questions asked in a county's memory. Every network of editions 01 and 02 is a town, so no call chooses it; what is said there must be what is
-// said in a town's. A line is printed only where it is not.
+// The same questions asked in a county's memory, which no call chooses for a town; what is said there must be what is said in a town's. A line is printed only
+// where it is not.
 use crate::{RUNS, runs, scratch};
 use frames::ranges::head_ok;
 use frames::{fields, sizes};

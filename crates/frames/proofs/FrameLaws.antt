@@ -1,13 +1,14 @@
 -- The tests that every frame has in common, and what they leave: a number decides which test failed first, and a frame with no fault has its kind,
 -- its length and its check. Then the limits that a good head and good ends keep to.
 -- Assumes nothing.
-use Prim.Native.Nat.{ℕ, suc, ◌+◌, ◌*◌, ◌%◌, ◌≤◌, ◌<◌}
+use Prim.Native.Nat.{ℕ, ◌+◌, ◌*◌, ◌%◌, ◌≤◌, ◌<◌}
 use mathlib.Core.Bool.{Bool, true, false, not, ◌&&◌, and-false}
 use mathlib.Core.Path.{◌≡◌, refl, sym, subst}
 use mathlib.Core.List.{List, [], ◌∷◌}
 use native.Mathlib.Omega.{arith}
 use lib.Dec.{leb, ltb, eqb}
 use lib.ListN.{length, get_or, drop, drop_of_length-le}
+use Rattle.std.proofs.lemmas.Bool.Decides.{nat_tests}
 use borrow.Author.Tests.{leb-true, ltb-true, eqb-true, eq-eqb, ne_eqb}
 use Rattle.lists.specs.Lists.{is_empty}
 use Rattle.lists.proofs.Facts.{and_true}
@@ -15,9 +16,9 @@ use Rattle.lists.proofs.Lists.{drop_one}
 use Rattle.refusals.specs.declared.Refusal.TheVariants.{NotDigits, WrongCheck, WrongFrame}
 use Rattle.refusals.specs.Numbers.{number_of, unless}
 use Rattle.frames.specs.declared.Head.{Head}
-use Rattle.frames.specs.Edition.{edition_ok, most_nodes, most_segments}
-use Rattle.frames.specs.Steps.Sizes.{county_size, Limited}
-use Rattle.frames.specs.Frame.{number, total, check_ok, byte, is_frame, edition, nodes, segments, node_a, leg_a, node_b, leg_b}
+use Rattle.frames.specs.Edition.{edition_ok, extra, length_bytes, most_nodes, most_segments}
+use Rattle.frames.specs.Steps.Sizes.{county_size, Extra, Limited}
+use Rattle.frames.specs.Frame.{byte, word, number, feet, total, check_ok, is_frame, edition, nodes, segments, node_a, leg_a, node_b, leg_b}
 use Rattle.frames.specs.Decoded.{head_fields}
 use Rattle.frames.specs.Ranges.{within, head_ok, ends_ok}
 use Rattle.frames.specs.Faults.{framed}
@@ -33,10 +34,19 @@ pub total_none : (f : List ℕ) (i : ℕ) → length f ≤ i → total (drop i f
 unfolding total
 total_none f i h = rw (drop_of_length-le f {i = i} h)
 
--- ---- numbers of two bytes and more: one byte more is one step of the definition
-pub number_more : (f : List ℕ) (i more : ℕ) → number (2 + (more + 1)) f i ≡ number (2 + more) f i * 256 + byte f (i + (2 + more))
-unfolding number
-number_more f i more = let one : 2 + (more + 1) ≡ suc (2 + more) = omega arith in rw one refl
+-- ---- the length, a number of two bytes or of four
+two_or_none : (e : ℕ) → (extra e ≡ 0 → ⊥) → extra e ≡ 2
+unfolding extra
+two_or_none e h = grind (arith, nat_tests)
+
+module _ (e : ℕ) (f : List ℕ) where
+  pub feet_of_two : {r : ℕ} → Extra e r → r ≡ 0 → word f 7 ≡ feet e f
+  unfolding feet length_bytes number
+  feet_of_two x z = let none : extra e ≡ 0 = omega (arith, x.is) in rw none (omega arith)
+
+  pub feet_of_four : {r : ℕ} → Extra e r → (r ≡ 0 → ⊥) → word f 7 * 65536 + word f 9 ≡ feet e f
+  unfolding feet length_bytes number
+  feet_of_four {r} x z = let two : extra e ≡ 2 = two_or_none e (omega (arith, x.is)) in rw two (omega arith)
 
 -- ---- which test of a frame fails first
 -- the numbers of its three tests, by their answers

@@ -7,14 +7,15 @@ use Rattle.std.proofs.Common.{rules, Some, nat_cmp}
 use Rattle.std.proofs.lemmas.Bool.Decides.{nat_tests}
 use Prim.Native.Nat.{ℕ, ◌≤◌}
 use mathlib.Core.Bool.{Bool, true, false, ◌&&◌, ◌||◌}
-use mathlib.Core.Path.{◌≡◌, ap}
+use mathlib.Core.Path.{◌≡◌, refl}
 use mathlib.Core.List.{List}
 use native.Mathlib.Omega.{arith}
 use lib.Dec.{leb, eqb}
 use borrow.Author.Tests.{leb-true}
 use Rattle.lists.proofs.Facts.{and_true}
-use Rattle.frames.specs.Edition.{most_turn_feet, is_newer, marks_ok, crosses_nothing}
-use Rattle.frames.specs.Frame.{marks, control, turn_kind, turn_feet, turning_speed, approach_b, approach_a}
+use Rattle.frames.specs.Edition.{extra, length_bytes, most_feet, most_turn_feet, marks_ok, crosses_nothing}
+use Rattle.frames.specs.Steps.Sizes.{Alike}
+use Rattle.frames.specs.Frame.{feet, marks, control, turn_kind, turn_feet, turning_speed, approach_b, approach_a}
 use Rattle.frames.specs.Ranges.{within, form_ok, crossing_ok, no_lane, turn_lane_ok, approach_ok, street_by, street_ok}
 
 pub within_low : (lo hi x : ℕ) → within lo hi x ≡ true → lo ≤ x
@@ -74,6 +75,7 @@ module _ (f : List ℕ) where
       let a = newer_approach (approach_a e) in
       grind (arith, nat_tests)
 
--- the rules that an edition has are its own
-pub own_rules : (e : ℕ) (f : List ℕ) (newer : Bool) → newer ≡ is_newer e → street_by newer e f ≡ street_ok e f
-own_rules e f newer h = ap (λ (n : Bool). street_by n e f) h
+-- streets of editions that are alike
+pub alike_streets : {e d : ℕ} (f : List ℕ) → Alike e d → street_ok e f ≡ street_ok d f
+unfolding street_by form_ok feet length_bytes most_feet extra
+alike_streets f a = rw (a.newer, a.wide) refl

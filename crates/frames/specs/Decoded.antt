@@ -1,5 +1,5 @@
--- Document 01, "Frames", and Note 5 of document 02: the decoded fields of a head, the form of a segment, and what its approaches cross and meet. Each case has only its own fields.
--- A number that no rule allows (specs/Ranges.antt refuses it) decodes as the last case.
+-- Document 01, "Frames", and Note 5 of document 02: the decoded fields of a head, the form of a segment, and what its approaches cross and meet. Each case
+-- has only its own fields. A number that no rule allows (specs/Ranges.antt refuses it) decodes as the last case.
 -- Assumes nothing.
 use Rattle.std.specs.Prelude.{ℕ, cond, List, eqb}
 use Rattle.frames.specs.declared.Head.{Head}

@@ -4,7 +4,6 @@ ghost use Rattle.frames.specs.Edition.{frame_bytes};
 ghost use Rattle.frames.specs.Frame.{head_bytes, ways};
 ghost use Rattle.frames.specs.Decoded.{head_fields, form_of, crossing_of, turn_lane_of};
 
-use crate::edition::extra_of;
 use crate::frame::{Frame, word_at};
 use crate::{Crossing, Form, Head, TurnLane, fields};
 
@@ -25,7 +24,7 @@ impl Frame<'_> {
     pub fn ways(&self) -> u8
         ensures { result ≡ ways self.now.edition self.now.bytes.now }
     {
-        self.bytes[extra_of(self.edition) + fields::WAYS]
+        self.bytes[self.extra + fields::WAYS]
     }
 
     // The segment's form, with only the fields that its case has.
@@ -34,7 +33,7 @@ impl Frame<'_> {
         ensures { result ≡ form_of self.now.edition self.now.bytes.now }
     {
         let f = self.bytes;
-        let x = extra_of(self.edition);
+        let x = self.extra;
         let lanes = f[x + fields::LANES];
         let speed = f[x + fields::SPEED];
         let reach = f[x + fields::REACH];

@@ -1,15 +1,15 @@
-// What an edition fixes. Editions 01 and 02 exist: a later one adds its case to the functions of this file that it changes.
+// What an edition fixes. Editions 01, 02 and 03 exist: a later one adds its case to the functions of this file that it changes.
 ghost use Rattle.std.specs.Prelude.{◌≡◌};
-ghost use Rattle.frames.specs.Edition.{edition_ok, is_newer, most_nodes, most_segments, most_feet, marks_ok, crosses_nothing};
-ghost use Rattle.frames.specs.Steps.Sizes.{Extra, FrameSize};
+ghost use Rattle.frames.specs.Edition.{edition_ok, is_newer, is_wide, most_nodes, most_segments, most_feet, marks_ok, crosses_nothing};
+ghost use Rattle.frames.specs.Steps.Sizes.{Extra, FrameSize, last_control};
 
-use crate::fields;
+use crate::{fields, sizes};
 
 // The longest turn lane, in feet.
 pub const MOST_TURN_FEET: usize = 2000;
 
 // In so many bytes every network that Read can keep has room.
-pub const MOST_KEPT: usize = fields::HEAD_BYTES + SEGMENT_BYTES * 1000;
+pub const MOST_KEPT: usize = fields::HEAD_BYTES + sizes::MOST_BYTES * sizes::COUNTY;
 
 // The bytes of a segment's frame where its length has 2.
 pub const SEGMENT_BYTES: usize = 30;
@@ -19,7 +19,7 @@ pub const SEGMENT_BYTES: usize = 30;
 pub fn edition_ok(e: u8) -> bool
     ensures { result ≡ edition_ok e }
 {
-    (e == 1) | (e == 2)
+    (1..=3).contains(&e)
 }
 
 // Whether the edition has the newer rules of document 02's Note 5: every one after edition 01.
@@ -30,12 +30,20 @@ pub fn is_newer(e: u8) -> bool
     e >= 2
 }
 
+// Whether the edition is for counties: lengths of 4 bytes, and higher limits.
+#[tactic(auto, unfolding(crate::specs::Edition::is_wide))]
+pub fn is_wide(e: u8) -> bool
+    ensures { result ≡ is_wide e }
+{
+    e >= 3
+}
+
 // The most nodes that a head may have.
 #[tactic(auto, unfolding(crate::specs::Edition::most_nodes))]
 pub fn most_nodes(e: u8) -> usize
     ensures { result ≡ most_nodes e }
 {
-    1000
+    if is_wide(e) { 8000 } else { 1000 }
 }
 
 // The most segments that a head may have.
@@ -43,7 +51,7 @@ pub fn most_nodes(e: u8) -> usize
 pub fn most_segments(e: u8) -> usize
     ensures { result ≡ most_segments e }
 {
-    1000
+    if is_wide(e) { 8000 } else { 1000 }
 }
 
 // The bytes that a segment's length has beyond two: what comes after it in the frame stands that much further on.
@@ -51,7 +59,7 @@ pub fn most_segments(e: u8) -> usize
 pub fn extra_of(e: u8) -> usize
     ensures { Extra e result }
 {
-    0
+    if is_wide(e) { 2 } else { 0 }
 }
 
 // The bytes of a segment's frame.
@@ -66,7 +74,7 @@ pub fn frame_bytes(e: u8) -> usize
 pub fn most_feet(e: u8) -> usize
     ensures { result ≡ most_feet e }
 {
-    52800
+    if is_wide(e) { 264000 } else { 52800 }
 }
 
 // Marks that are a sum of those that the rules have.
@@ -83,4 +91,11 @@ pub fn crosses_nothing(newer: bool, control: u8) -> bool
     ensures { result ≡ crosses_nothing newer control }
 {
     control <= 1 || (newer && control == 5)
+}
+
+// The last control that the rules have.
+pub fn last_control(newer: bool) -> usize
+    ensures { result ≡ last_control newer }
+{
+    if newer { 5 } else { 4 }
 }

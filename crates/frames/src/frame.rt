@@ -3,8 +3,8 @@ ghost use Rattle.std.specs.Prelude.{◌+◌, ◌%◌, ◌≤◌, ◌<◌, ◌≡
 ghost use Rattle.frames.specs.Edition.{frame_bytes};
 ghost use Rattle.frames.specs.Frame.{byte, word, total, feet};
 ghost use Rattle.frames.specs.Faults.{framed};
+ghost use Rattle.frames.specs.Steps.Sizes.{Extra};
 
-use crate::edition::extra_of;
 use crate::fields;
 
 // A byte as a number that sums and products have room for.
@@ -44,26 +44,27 @@ pub fn is_framed(f: &[u8], kind: u8) -> bool
     (sum_of(f) == 0) & (f[fields::KIND] == kind)
 }
 
-// A segment's frame, of an edition: what stands in it is told by its methods, here and in `decoded` and `ranges`.
+// A segment's frame, of an edition: what stands in it is told by its methods, here and in `decoded` and `ranges`. So many bytes its length has beyond two: what
+// comes after it stands that much further on. A search reads so many frames of one network that this is not asked of the edition each time.
 #[derive(Clone, Copy)]
 pub struct Frame<'a> {
     pub bytes: &'a [u8],
     pub edition: u8,
+    pub extra: usize,
     pub ghost whole: { frame_bytes edition ≤ length bytes.now },
+    pub ghost wide: { Extra edition extra },
 }
 
 impl Frame<'_> {
-    // The segment's length in feet.
-    #[tactic(auto, using(crate::proofs::FrameLaws::number_more), unfolding(crate::specs::Frame::feet, crate::specs::Frame::number, crate::specs::Edition::length_bytes))]
+    // The segment's length in feet: a number of two bytes, or of four.
+    #[tactic(auto, using(crate::proofs::FrameLaws::feet_of_two, crate::proofs::FrameLaws::feet_of_four))]
     pub fn feet(&self) -> usize
         ensures { (result ≡ feet self.now.edition self.now.bytes.now) × (result < 4294967296) }
     {
-        let start = fields::FEET + fields::FEET_BYTES;
-        let end = start + extra_of(self.edition);
-        let mut feet = word_at(self.bytes, fields::FEET);
-        for byte in &self.bytes[start..end] {
-            feet = feet * 256 + usize::from(*byte);
+        let high = word_at(self.bytes, fields::FEET);
+        if self.extra == 0 {
+            return high;
         }
-        feet
+        high * 65536 + word_at(self.bytes, fields::FEET + fields::FEET_BYTES)
     }
 }

@@ -1,5 +1,5 @@
-// Frames of document 01, and of document 02's Note 5: where their fields stand, what an edition fixes, the ranges and rules of the fields, and the decoded
-// values. The definitions are in specs/; every function is equated with one of them.
+// Frames of document 01, and of document 02's Notes 5 and 6: where their fields stand, what an edition fixes, the ranges and rules of the fields, and the
+// decoded values. The definitions are in specs/; every function is equated with one of them.
 #![tactic(auto)]
 
 pub mod decoded;

@@ -1,12 +1,12 @@
 // The ranges and rules of a head's and a segment's fields.
 ghost use Rattle.std.specs.Prelude.{◌+◌, ◌≤◌, ◌<◌, ◌≡◌, length};
-ghost use Rattle.frames.specs.Edition.{segment_bytes};
+ghost use Rattle.frames.specs.Edition.{segment_bytes, frame_bytes, is_newer};
 ghost use Rattle.frames.specs.Frame.{head_bytes};
-ghost use Rattle.frames.specs.Ranges.{head_ok, ends_ok, form_ok, crossing_ok, no_lane, turn_lane_ok, approach_ok, street_by, street_ok};
+ghost use Rattle.frames.specs.Ranges.{within, head_ok, ends_ok, form_ok, crossing_ok, no_lane, turn_lane_ok, approach_ok, street_ok};
 
 use crate::edition::{
-    MOST_TURN_FEET, crosses_nothing, edition_ok, extra_of, is_newer, marks_ok, most_feet,
-    most_nodes, most_segments,
+    MOST_TURN_FEET, crosses_nothing, edition_ok, extra_of, is_newer, is_wide, last_control,
+    marks_ok, most_feet, most_nodes, most_segments,
 };
 use crate::fields;
 use crate::frame::{Frame, word_at};
@@ -36,6 +36,22 @@ pub fn ends_ok(f: &[u8], n: usize) -> bool
         & (f[fields::LEG_B] <= 7)
 }
 
+// The least and the most that the lanes and the speed crossed may be, for each control.
+const LEAST_LANES: [u8; 6] = [0, 0, 1, 1, 1, 0];
+
+const MOST_LANES: [u8; 6] = [0, 0, 12, 12, 12, 0];
+
+const LEAST_SPEED: [u8; 6] = [0, 0, 5, 5, 5, 0];
+
+const MOST_SPEED: [u8; 6] = [0, 0, 85, 85, 85, 0];
+
+// The number is from the least to the most.
+fn is_within(least: u8, most: u8, x: u8) -> bool
+    ensures { result ≡ within least most x }
+{
+    (least <= x) & (x <= most)
+}
+
 // Whether kind, length and turning speed of the turn lane of the approach at place i are all 0: one look at four bytes.
 fn has_no_lane(f: &[u8], i: usize) -> bool
     requires { i + 6 < length f.now }
@@ -48,11 +64,11 @@ fn has_no_lane(f: &[u8], i: usize) -> bool
 impl Frame<'_> {
     // Lanes, speed, reach and marks are those that the form may have.
     #[tactic(auto, using(crate::proofs::RangeLaws::contains_within, crate::proofs::RangeLaws::other_form), unfolding(crate::specs::Ranges::form_ok))]
-    fn form_ok<const NEWER: bool>(&self) -> bool
-        ensures { result ≡ form_ok NEWER self.now.edition self.now.bytes.now }
+    fn form_ok(&self) -> bool
+        ensures { result ≡ form_ok (is_newer self.now.edition) self.now.edition self.now.bytes.now }
     {
         let f = self.bytes;
-        let x = extra_of(self.edition);
+        let x = self.extra;
         let form = f[x + fields::FORM];
         let lanes = f[x + fields::LANES];
         let speed = f[x + fields::SPEED];
@@ -65,24 +81,42 @@ impl Frame<'_> {
             & (1..=12).contains(&lanes)
             & (5..=85).contains(&speed)
             & (reach <= 60)
-            & marks_ok(NEWER, marks)
+            & marks_ok(is_newer(self.edition), marks)
             & ((1 <= form) | (reach == 0))
     }
 
     // What the approach at place i of the frame crosses.
     #[tactic(auto, using(crate::proofs::EditionLaws::crosses_or_not, crate::proofs::RangeLaws::contains_within), unfolding(crate::specs::Ranges::crossing_ok))]
-    fn crossing_ok<const NEWER: bool>(&self, i: usize) -> bool
+    fn crossing_ok(&self, i: usize) -> bool
         requires { i + 6 < length self.now.bytes.now }
-        ensures { result ≡ crossing_ok NEWER self.now.bytes.now i }
+        ensures { result ≡ crossing_ok (is_newer self.now.edition) self.now.bytes.now i }
     {
         let f = self.bytes;
         let control = f[i];
         let lanes = f[i + fields::LANES_CROSSED];
         let speed = f[i + fields::SPEED_CROSSED];
-        if crosses_nothing(NEWER, control) {
+        if crosses_nothing(is_newer(self.edition), control) {
             return (lanes == 0) & (speed == 0);
         }
         (2..=4).contains(&control) & (1..=12).contains(&lanes) & (5..=85).contains(&speed)
+    }
+
+    // The same with the limits of lanes and speed looked up, and not asked for by a branch for each kind of control. It takes more instructions; but in a network
+    // so large that no processor foresees which kind comes next, a branch takes longer.
+    #[tactic(auto, using(crate::proofs::LimitLaws::crossing_by_limits, crate::proofs::LimitLaws::no_such_control))]
+    fn crossing_in_limits(&self, i: usize) -> bool
+        requires { i + 6 < length self.now.bytes.now }
+        ensures { result ≡ crossing_ok (is_newer self.now.edition) self.now.bytes.now i }
+    {
+        let f = self.bytes;
+        let control = usize::from(f[i]);
+        let lanes = f[i + fields::LANES_CROSSED];
+        let speed = f[i + fields::SPEED_CROSSED];
+        if control > last_control(is_newer(self.edition)) {
+            return false;
+        }
+        is_within(LEAST_LANES[control], MOST_LANES[control], lanes)
+            & is_within(LEAST_SPEED[control], MOST_SPEED[control], speed)
     }
 
     // The turn lane of the approach at place i of the frame. Most approaches have none.
@@ -103,38 +137,62 @@ impl Frame<'_> {
 
     // The approach at place i of the frame.
     #[tactic(auto, unfolding(crate::specs::Ranges::approach_ok))]
-    fn approach_ok<const NEWER: bool>(&self, i: usize) -> bool
+    fn approach_ok<const LARGE: bool>(&self, i: usize) -> bool
         requires { i + 6 < length self.now.bytes.now }
-        ensures { result ≡ approach_ok NEWER self.now.bytes.now i }
+        ensures { result ≡ approach_ok (is_newer self.now.edition) self.now.bytes.now i }
     {
-        self.crossing_ok::<NEWER>(i) && self.turn_lane_ok(i)
+        let crossing = if LARGE {
+            self.crossing_in_limits(i)
+        } else {
+            self.crossing_ok(i)
+        };
+        crossing && self.turn_lane_ok(i)
     }
 
-    // All that the frame has after its ends, by the older rules or by the newer ones. A frame that is refused is rare, so each test is a branch of its own,
-    // which costs the others nothing.
+    // All that the frame has after its ends. A frame that is refused is rare, so each test is a branch of its own, which costs the others nothing. It is always
+    // inlined: where the edition is a constant, so is all that the edition fixes.
+    #[inline(always)]
     #[tactic(auto, using(crate::proofs::RangeLaws::contains_within), unfolding(crate::specs::Ranges::street_by))]
-    pub fn street_by<const NEWER: bool>(&self) -> bool
-        ensures { result ≡ street_by NEWER self.now.edition self.now.bytes.now }
+    fn street<const LARGE: bool>(&self) -> bool
+        ensures { result ≡ street_ok self.now.edition self.now.bytes.now }
     {
-        let x = extra_of(self.edition);
         let feet = self.feet();
         let feet_ok = (1..=most_feet(self.edition)).contains(&feet);
         let ways_ok = (1..=3).contains(&self.ways());
         ways_ok
             && feet_ok
-            && self.form_ok::<NEWER>()
-            && self.approach_ok::<NEWER>(x + fields::APPROACH_B)
-            && self.approach_ok::<NEWER>(x + fields::APPROACH_A)
+            && self.form_ok()
+            && self.approach_ok::<LARGE>(self.extra + fields::APPROACH_B)
+            && self.approach_ok::<LARGE>(self.extra + fields::APPROACH_A)
     }
+}
 
-    // The same by the rules of the edition. It is always inlined: a caller then keeps no frame in memory.
-    #[inline(always)]
-    pub fn street_ok(&self) -> bool
-        ensures { result ≡ street_ok self.now.edition self.now.bytes.now }
-    {
-        if is_newer(self.edition) {
-            return self.street_by::<true>();
-        }
-        self.street_by::<false>()
+// The same of the bytes of a frame, as code for one edition and for those that are alike, and for large networks or not.
+#[tactic(auto, using(crate::proofs::EditionLaws::alike_frames))]
+pub fn street_by<const EDITION: u8, const LARGE: bool>(f: &[u8]) -> bool
+    requires { frame_bytes EDITION ≤ length f.now }
+    ensures { result ≡ street_ok EDITION f.now }
+{
+    let frame = Frame {
+        bytes: f,
+        edition: EDITION,
+        extra: extra_of(EDITION),
+    };
+    frame.street::<LARGE>()
+}
+
+// The same for every edition, by code for it alone. It is always inlined: one call more for each line would be the longer way.
+#[inline(always)]
+#[tactic(auto, using(crate::proofs::EditionLaws::alike_frames, crate::proofs::RangeLaws::alike_streets, crate::proofs::EditionLaws::alike_first, crate::proofs::EditionLaws::alike_second, crate::proofs::EditionLaws::alike_third))]
+pub fn street_ok(f: &[u8], edition: u8) -> bool
+    requires { frame_bytes edition ≤ length f.now }
+    ensures { result ≡ street_ok edition f.now }
+{
+    if !is_newer(edition) {
+        return street_by::<1, false>(f);
     }
+    if !is_wide(edition) {
+        return street_by::<2, false>(f);
+    }
+    street_by::<3, false>(f)
 }

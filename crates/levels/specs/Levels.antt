@@ -9,6 +9,13 @@ use Rattle.text.specs.Samples.{characters}
 use Rattle.streets.specs.Bicycle.{segment_grade}
 use Rattle.printing.specs.Output.{decimal}
 
+-- It reads at most so many bytes. Of a network whose text is no longer, no more lines are printed than these; a page has room for 63 bytes of each.
+abbrev pub most_input : ℕ
+most_input = 65536
+
+abbrev pub most_lines : ℕ
+most_lines = 1040
+
 -- Twenty digits hold every number of 64 bits.
 abbrev pub in_decimal : ℕ → List ℕ
 in_decimal n = decimal 20 n

@@ -1,9 +1,9 @@
 // What program levels prints of a text.
-ghost use Rattle.std.specs.Prelude.{◌≡◌, [], ◌++◌, ◌+◌, ◌≤◌, ◌<◌};
+ghost use Rattle.std.specs.Prelude.{◌≡◌, [], ◌++◌, ◌+◌, ◌≤◌, ◌<◌, length};
 ghost use Rattle.network.specs.Network.{segments_of};
 ghost use Rattle.refusals.specs.Numbers.{number_of};
 ghost use Rattle.arrayvec.specs.ArrayString.{array_string_len};
-ghost use Rattle.levels.specs.Levels.{level_line, level_lines, refused_line, levels_room, levels_of};
+ghost use Rattle.levels.specs.Levels.{most_input, most_lines, level_line, level_lines, refused_line, levels_room, levels_of};
 
 use arrayvec::ArrayString;
 use frames::edition;
@@ -28,9 +28,9 @@ fn put_level(net: &Network, segment: usize, page: &mut Page)
     put_field(usize::from(grade.measure), '\n', page);
 }
 
-// A line for each segment of a network.
+// A line for each segment of a network that a page has room for.
 fn put_levels(net: &Network, page: &mut Page)
-    requires { page.old.bytes ≡ [] }
+    requires { (page.old.bytes ≡ []) × (segments_of net.now.bytes.now ≤ most_lines) }
     ensures { page.new.bytes ≡ level_lines net.now.bytes.now 0 (segments_of net.now.bytes.now) }
 {
     for segment in 0..net.segments() {
@@ -47,8 +47,9 @@ fn put_refusal(refusal: Refusal, line: usize, page: &mut Page)
     put_field(line, '\n', page);
 }
 
-// A line for each segment of the text's network, or one line for its refusal.
+// A line for each segment of the text's network, or one line for its refusal. So many bytes have no more lines than a page has room for.
 pub fn levels(text: &[u8]) -> Page
+    requires { length text.now ≤ most_input }
     ensures { result.bytes ≡ levels_of text.now }
 {
     let mut net = [0; edition::MOST_KEPT];
@@ -56,9 +57,7 @@ pub fn levels(text: &[u8]) -> Page
     match read(text, &mut net) {
         Err(Refused { refusal, line }) => put_refusal(refusal, line, &mut page),
         Ok(count) => {
-            let net = Network {
-                bytes: &net[..count],
-            };
+            let net = Network::of(&net[..count]);
             put_levels(&net, &mut page);
         }
     }

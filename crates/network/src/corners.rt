@@ -23,7 +23,7 @@ pub fn run_leaving(entry: u16) -> Option<usize>
 {
     match entry {
         0 => None,
-        next => Some(usize::from(next - 1)),
+        next => Some(usize::from(next) - 1),
     }
 }
 

@@ -1,8 +1,8 @@
 // Test 8: bytes that Read could keep.
 ghost use Rattle.std.specs.Prelude.{◌+◌, ◌*◌, ◌≤◌, ◌<◌, ◌≡◌, [], true, length, drop};
-ghost use Rattle.frames.specs.Edition.{frame_bytes, is_newer};
+ghost use Rattle.frames.specs.Edition.{frame_bytes};
 ghost use Rattle.frames.specs.Frame.{head_bytes};
-ghost use Rattle.frames.specs.Steps.Sizes.{county_size, Limited};
+ghost use Rattle.frames.specs.Steps.Sizes.{county_size, Alike, Limited};
 ghost use Rattle.network.specs.Network.{is_network};
 ghost use Rattle.network.specs.Steps.Corners.{IndexOf};
 ghost use Rattle.network.specs.Steps.Taken.{Gathered};
@@ -11,9 +11,9 @@ ghost use Rattle.network.specs.Steps.Checks.{HeadFits, FewNodes, Awaits, AwaitsR
 use crate::corners::enter_runs;
 use crate::legs::{claim_legs, ends_of, no_legs};
 use frames::decoded::head_of;
-use frames::edition::{frame_bytes, is_newer};
-use frames::frame::{Frame, is_framed};
-use frames::ranges::{ends_ok, head_ok};
+use frames::edition::{frame_bytes, is_newer, is_wide};
+use frames::frame::is_framed;
+use frames::ranges::{ends_ok, head_ok, street_by};
 use frames::sizes::is_town;
 use frames::{Head, fields, sizes};
 
@@ -30,8 +30,8 @@ pub fn kept_bytes(head: Head) -> usize
 // to be filled. What the street has is tested last, by a call: nothing of the ends has to be kept across it. This function is always inlined: one call more
 // for each segment would cost the pass a seventh.
 #[inline(always)]
-#[tactic(auto, using(crate::proofs::FaultLaws::line_and, crate::proofs::CornerLaws::runs_room, frames::proofs::FrameLaws::end_limits, frames::proofs::EditionLaws::frame_least, frames::proofs::RangeLaws::own_rules))]
-fn take_segment<const INDEXED: bool, const NEWER: bool>(
+#[tactic(auto, using(crate::proofs::FaultLaws::line_and, crate::proofs::CornerLaws::runs_room, frames::proofs::FrameLaws::end_limits, frames::proofs::EditionLaws::frame_least, frames::proofs::EditionLaws::alike_frames, frames::proofs::RangeLaws::alike_streets))]
+fn take_segment<const INDEXED: bool, const EDITION: u8, const LARGE: bool>(
     f: &[u8],
     head: Head,
     s: usize,
@@ -39,7 +39,7 @@ fn take_segment<const INDEXED: bool, const NEWER: bool>(
     index: &mut [u16],
 ) -> bool
     requires { (length f.now ≡ frame_bytes head.edition) × HeadFits head legs.old × (s < head.segments)
-        × (INDEXED ≡ true → head.nodes * 8 ≤ length index.old) × (NEWER ≡ is_newer head.edition) }
+        × (INDEXED ≡ true → head.nodes * 8 ≤ length index.old) × (Alike EDITION head.edition) }
     ensures { SegmentChecked INDEXED f.now head s legs.old legs.new index.old index.new result }
 {
     if !is_framed(f, fields::SEGMENT_KIND) {
@@ -55,36 +55,34 @@ fn take_segment<const INDEXED: bool, const NEWER: bool>(
     if INDEXED {
         enter_runs(ends, s, index);
     }
-    let frame = Frame {
-        bytes: f,
-        edition: head.edition,
-    };
-    frame.street_by::<NEWER>()
+    street_by::<EDITION, LARGE>(f)
 }
 
-// The one pass over the segments: the frames after the head follow the older rules or the newer, and no leg is taken twice; then the bytes have all used legs, and an index that
-// is to be filled has all runs.
-fn frames_by<const INDEXED: bool, const NEWER: bool>(
+// The one pass over the segments, as code for one edition and for those that are alike, and for large networks or not: the frames after the head follow the
+// rules, and no leg is taken twice; then the bytes have all used legs, and an index that is to be filled has all runs.
+#[tactic(auto, using(frames::proofs::EditionLaws::alike_frames))]
+fn frames_by<const INDEXED: bool, const EDITION: u8, const LARGE: bool>(
     net: &[u8],
     head: Head,
     legs: &mut [u8],
     index: &mut [u16],
 ) -> bool
     requires { (length net.now ≡ head_bytes + frame_bytes head.edition * head.segments) × Limited head
-        × Gathered head.nodes [] legs.old × FramesIndexed INDEXED head.nodes [] index.old × (NEWER ≡ is_newer head.edition) }
+        × Gathered head.nodes [] legs.old × FramesIndexed INDEXED head.nodes [] index.old × (Alike EDITION head.edition) }
     ensures { FramesChecked INDEXED head (drop head_bytes net.now) legs.new index.new result }
 {
-    let size = frame_bytes(head.edition);
+    let size = frame_bytes(EDITION);
     for s in 0..head.segments {
         let at = fields::HEAD_BYTES + size * s;
-        if !take_segment::<INDEXED, NEWER>(&net[at..at + size], head, s, legs, index) {
+        if !take_segment::<INDEXED, EDITION, LARGE>(&net[at..at + size], head, s, legs, index) {
             return false;
         }
     }
     true
 }
 
-// The same by the rules of the head's edition: a loop for the older ones and one for the newer, so that edition 01 pays nothing for the other.
+// The same for the head's edition: a loop for each, so that none pays for what another has, and one more for a county.
+#[tactic(auto, using(frames::proofs::EditionLaws::alike_first, frames::proofs::EditionLaws::alike_second, frames::proofs::EditionLaws::alike_third))]
 fn frames_ok<const INDEXED: bool>(
     net: &[u8],
     head: Head,
@@ -95,10 +93,16 @@ fn frames_ok<const INDEXED: bool>(
         × Gathered head.nodes [] legs.old × FramesIndexed INDEXED head.nodes [] index.old }
     ensures { FramesChecked INDEXED head (drop head_bytes net.now) legs.new index.new result }
 {
-    if is_newer(head.edition) {
-        return frames_by::<INDEXED, true>(net, head, legs, index);
+    if !is_newer(head.edition) {
+        return frames_by::<INDEXED, 1, false>(net, head, legs, index);
     }
-    frames_by::<INDEXED, false>(net, head, legs, index)
+    if !is_wide(head.edition) {
+        return frames_by::<INDEXED, 2, false>(net, head, legs, index);
+    }
+    if is_town(head.nodes, head.segments) {
+        return frames_by::<INDEXED, 3, false>(net, head, legs, index);
+    }
+    frames_by::<INDEXED, 3, true>(net, head, legs, index)
 }
 
 // Whether the bytes are a network that Read could keep; then the bytes lent have its used legs, and an index that is to be filled has its runs.

@@ -37,7 +37,8 @@ pub struct Met {
 }
 
 impl Search<'_, '_> {
-    // The search in memory of its own, for so many nodes and half as many runs as keys.
+    // The search in memory of its own, for so many nodes and half as many runs as keys. It is never inlined: a county takes no stack for a town's search too.
+    #[inline(never)]
     fn search_in<const KEYS: usize, const NODES: usize>(
         &self,
         best: &mut [u32],

@@ -11,7 +11,7 @@ use Rattle.std.proofs.lemmas.Bool.Decides.{nat_tests}
 use Rattle.routes.specs.NowhereWorse.{NowhereWorse}
 use Rattle.routes.specs.Routes.{Within}
 use Rattle.routes.proofs.NowhereWorse.{within_too}
-use Rattle.frames.specs.Edition.{is_newer, extra, length_bytes, most_feet, marks_ok, crosses_nothing}
+use Rattle.frames.specs.Edition.{is_newer, is_wide, extra, length_bytes, most_feet, marks_ok, crosses_nothing}
 use Rattle.frames.specs.Frame.{marks, control, feet, approach_b, approach_a}
 use Rattle.frames.specs.Ranges.{form_ok, crossing_ok, approach_ok, street_by, street_ok}
 use Rattle.frames.proofs.RangeLaws.{newer_street}
@@ -50,7 +50,7 @@ values net n first s l =
 
 -- ---- what edition 02 allows
 allowed : (f : List ℕ) → street_ok 1 f ≡ true → street_ok 2 f ≡ true
-unfolding is_newer street_by extra length_bytes most_feet feet form_ok
+unfolding is_newer is_wide street_by extra length_bytes most_feet feet form_ok
 allowed f h = newer_street f 1 h
 
 -- ---- the routes of edition 01

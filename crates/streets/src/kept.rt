@@ -1,22 +1,25 @@
 // A kept network, and its streets: the network with the used legs of its nodes.
 ghost use Rattle.std.specs.Prelude.{◌<◌, ◌≡◌, true, false, MatchOption};
-ghost use Rattle.network.specs.Network.{nodes_of, segments_of, is_network};
+ghost use Rattle.frames.specs.Steps.Sizes.{Extra};
+ghost use Rattle.network.specs.Network.{edition_of, nodes_of, segments_of, is_network};
 ghost use Rattle.network.specs.Steps.Corners.{IndexOf};
 ghost use Rattle.network.specs.Steps.Checks.{Awaits, AwaitsRuns};
 ghost use Rattle.streets.specs.Runs.{runs_of};
 ghost use Rattle.streets.specs.Steps.Places.{FrameOf};
 ghost use Rattle.streets.specs.UsedLegs.{LegsOf};
 
-use frames::edition::frame_bytes;
+use frames::edition::{SEGMENT_BYTES, extra_of};
 use frames::fields;
 use frames::frame::{Frame, word_at};
 use network::kept::{is_indexed_network, is_network};
 
-// Bytes that Read could keep.
+// Bytes that Read could keep. So many bytes the lengths of its edition have beyond two: a search asks it for each frame that it reads.
 #[derive(Clone, Copy)]
 pub struct Network<'a> {
     pub bytes: &'a [u8],
+    pub extra: usize,
     pub ghost kept: { is_network bytes.now ≡ true },
+    pub ghost wide: { Extra (edition_of bytes.now) extra },
 }
 
 // A kept network with the used legs of its nodes, a byte for each.
@@ -29,6 +32,17 @@ pub struct Streets<'a> {
 
 #[tactic(auto, using(network::proofs::NetworkLaws::network_length, crate::proofs::EndLaws::frame_room, crate::proofs::EndLaws::segments_few))]
 impl<'a> Network<'a> {
+    // The network that the bytes are.
+    pub fn of(bytes: &'a [u8]) -> Network<'a>
+        requires { is_network bytes.now ≡ true }
+        ensures { result.bytes.now ≡ bytes.now }
+    {
+        Network {
+            bytes,
+            extra: extra_of(bytes[fields::EDITION]),
+        }
+    }
+
     // How many nodes it has.
     pub fn nodes(&self) -> usize
         ensures { result ≡ nodes_of self.now.bytes.now }
@@ -55,12 +69,12 @@ impl<'a> Network<'a> {
         requires { segment < segments_of self.now.bytes.now }
         ensures { FrameOf self.now.bytes.now segment result }
     {
-        let edition = self.bytes[fields::EDITION];
-        let size = frame_bytes(edition);
+        let size = SEGMENT_BYTES + self.extra;
         let start = fields::HEAD_BYTES + size * segment;
         Frame {
             bytes: &self.bytes[start..start + size],
-            edition,
+            edition: self.bytes[fields::EDITION],
+            extra: self.extra,
         }
     }
 }
@@ -76,7 +90,7 @@ impl<'a> Streets<'a> {
             return None;
         }
         Some(Streets {
-            net: Network { bytes: net },
+            net: Network::of(net),
             legs,
         })
     }
@@ -90,7 +104,7 @@ impl<'a> Streets<'a> {
             return None;
         }
         Some(Streets {
-            net: Network { bytes: net },
+            net: Network::of(net),
             legs,
         })
     }

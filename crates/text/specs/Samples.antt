@@ -1,5 +1,5 @@
 -- Document 01, "Starred and plain examples": the input that the paper prints, and what Read says of it and of its neighbours, one for each number 1 to
--- 7. And the values that edition 02 alone has. Its proof is proofs/SamplesHold.antt.
+-- 7. And the values that edition 02 has and edition 01 has not, and what edition 03 alone has. Its proof is proofs/SamplesHold.antt.
 -- Assumes nothing.
 use Rattle.std.specs.Prelude.{ℕ, ◌≡◌, true, false, List, [], ◌∷◌, ◌++◌}
 use Prim.Native.Char.{code}
@@ -16,7 +16,7 @@ abbrev pub line : String → List ℕ
 line end = 0x0A ∷ []
 line (c then cs) = code c ∷ line cs
 
--- Heads of two nodes and one segment, two segments, none; of edition 02; of edition 04, which does not exist.
+-- Heads of two nodes and one segment, two segments, none; of edition 02; of edition 03; of edition 04, which does not exist.
 abbrev pub one : List ℕ
 one = line "010100020001FB"
 
@@ -29,10 +29,24 @@ no = line "010100020000FC"
 abbrev newer : List ℕ
 newer = line "010200020001FA"
 
+abbrev county : List ℕ
+county = line "010300020001F9"
+
 abbrev later : List ℕ
 later = line "010400020001F8"
 
--- The segment of the example; the paper's line with a lowercase digit and a space; and the segment with a lowercase digit alone, another check, ways 0, node 2, and both ends at one leg.
+-- Heads without segments: of edition 03 with 8,000 nodes and with 8,001, of edition 02 with 1,001.
+abbrev nodes_8000 : List ℕ
+nodes_8000 = line "01031F4000009D"
+
+abbrev nodes_8001 : List ℕ
+nodes_8001 = line "01031F4100009C"
+
+abbrev nodes_1001 : List ℕ
+nodes_1001 = line "010203E9000011"
+
+-- The segment of the example; the paper's line with a lowercase digit and a space; and the segment with a lowercase digit alone, another check, ways 0, node
+-- 2, and both ends at one leg.
 abbrev pub street : List ℕ
 street = line "0200000200010601F40003021900010000000000000000000000000000E1"
 
@@ -70,7 +84,14 @@ mark_20 = line "0200000200010601F40003021900200000000000000000000000000000C2"
 abbrev control_6 : List ℕ
 control_6 = line "0200000200010601F40003021900010600000000000000000000000000DB"
 
--- The kept bytes of the example; and those of the segment with both new values, under edition 02.
+-- A segment of edition 03, of 264,000 feet and of 264,001.
+abbrev rural : List ℕ
+rural = line "020000020001060004074000030219000100000000000000000000000000008B"
+
+abbrev too_long_a_street : List ℕ
+too_long_a_street = line "020000020001060004074100030219000100000000000000000000000000008A"
+
+-- The kept bytes of the example; those of the segment with both new values, under edition 02; and those of the segment of 264,000 feet, under edition 03.
 abbrev pub network : List ℕ
 network =
     0x01 ∷ 0x01 ∷ 0x00 ∷ 0x02 ∷ 0x00 ∷ 0x01 ∷ 0xFB ∷ 0x02 ∷ 0x00 ∷ 0x00 ∷ 0x02 ∷ 0x00 ∷ 0x01 ∷ 0x06 ∷ 0x01 ∷ 0xF4 ∷ 0x00 ∷ 0x03 ∷ 0x02 ∷
@@ -80,6 +101,11 @@ abbrev newer_network : List ℕ
 newer_network =
     0x01 ∷ 0x02 ∷ 0x00 ∷ 0x02 ∷ 0x00 ∷ 0x01 ∷ 0xFA ∷ 0x02 ∷ 0x00 ∷ 0x00 ∷ 0x02 ∷ 0x00 ∷ 0x01 ∷ 0x06 ∷ 0x01 ∷ 0xF4 ∷ 0x00 ∷ 0x03 ∷ 0x02 ∷
     0x19 ∷ 0x00 ∷ 0x10 ∷ 0x05 ∷ 0x00 ∷ 0x00 ∷ 0x00 ∷ 0x00 ∷ 0x00 ∷ 0x00 ∷ 0x00 ∷ 0x00 ∷ 0x00 ∷ 0x00 ∷ 0x00 ∷ 0x00 ∷ 0x00 ∷ 0xCD ∷ []
+
+abbrev county_network : List ℕ
+county_network =
+    0x01 ∷ 0x03 ∷ 0x00 ∷ 0x02 ∷ 0x00 ∷ 0x01 ∷ 0xF9 ∷ 0x02 ∷ 0x00 ∷ 0x00 ∷ 0x02 ∷ 0x00 ∷ 0x01 ∷ 0x06 ∷ 0x00 ∷ 0x04 ∷ 0x07 ∷ 0x40 ∷ 0x00 ∷ 0x03 ∷ 0x02 ∷
+    0x19 ∷ 0x00 ∷ 0x01 ∷ 0x00 ∷ 0x00 ∷ 0x00 ∷ 0x00 ∷ 0x00 ∷ 0x00 ∷ 0x00 ∷ 0x00 ∷ 0x00 ∷ 0x00 ∷ 0x00 ∷ 0x00 ∷ 0x00 ∷ 0x00 ∷ 0x8B ∷ []
 
 pub record Samples : Type 0 where
   pub accepted : read_of (one ++ street) 37 ≡ kept network
@@ -93,6 +119,17 @@ pub record Samples : Type 0 where
   pub control_under_01 : read_of (one ++ improved) 37 ≡ refused 4 2
   pub mark_beyond : read_of (newer ++ mark_20) 37 ≡ refused 4 2
   pub control_beyond : read_of (newer ++ control_6) 37 ≡ refused 4 2
+  -- Edition 03: a length of four bytes, to 264,000 feet, in a frame of 32, which no other edition has; a county's limits.
+  pub county_accepted : read_of (county ++ rural) 39 ≡ kept county_network
+  pub county_passes : is_network county_network ≡ true
+  pub county_too_short : read_of (county ++ rural) 38 ≡ refused 7 1
+  pub feet_beyond : read_of (county ++ too_long_a_street) 39 ≡ refused 4 2
+  pub narrow_in_03 : read_of (county ++ street) 39 ≡ refused 3 2
+  pub wide_in_02 : read_of (newer ++ rural) 39 ≡ refused 3 2
+  pub wide_in_01 : read_of (one ++ rural) 39 ≡ refused 3 2
+  pub most_nodes_03 : read_of nodes_8000 7 ≡ kept (0x01 ∷ 0x03 ∷ 0x1F ∷ 0x40 ∷ 0x00 ∷ 0x00 ∷ 0x9D ∷ [])
+  pub nodes_beyond_03 : read_of nodes_8001 7 ≡ refused 4 1
+  pub nodes_beyond_02 : read_of nodes_1001 7 ≡ refused 4 1
   -- 1: a lowercase digit, at any length of its line; no 0A; an empty line.
   pub not_digits : read_of (one ++ lowercase) 37 ≡ refused 1 2
   pub not_uppercase : read_of (one ++ lowered) 37 ≡ refused 1 2

@@ -15,8 +15,8 @@ use crate::{GoodHead, Refused};
 use digits::{Scanned, decode_into, scan_line};
 use frames::decoded::head_of;
 use frames::edition::frame_bytes;
-use frames::frame::{Frame, sum_of};
-use frames::ranges::{ends_ok, head_ok};
+use frames::frame::sum_of;
+use frames::ranges::{ends_ok, head_ok, street_ok};
 use frames::sizes::is_town;
 use frames::{Head, fields, sizes};
 use network::kept::kept_bytes;
@@ -84,11 +84,7 @@ fn judge_frame(frame: &[u8], head: Head, s: usize, legs: &mut [u8]) -> Result<()
     if head.segments <= s {
         return Err(Refusal::WrongCount);
     }
-    let street = Frame {
-        bytes: frame,
-        edition: head.edition,
-    };
-    if !street.street_ok() {
+    if !street_ok(frame, head.edition) {
         return Err(Refusal::WrongField);
     }
     if !ends_ok(frame, head.nodes) {
@@ -116,16 +112,6 @@ fn judge_line(
     judge_frame(frame, head, s, legs)
 }
 
-// The same with a buffer of its own.
-fn segment_line(rest: &[u8], head: Head, s: usize, legs: &mut [u8]) -> Result<(), Refusal>
-    requires { HeadFits head legs.old }
-    ensures { LineJudged rest.now head s legs.old legs.new result }
-{
-    let mut frame = [0u8; sizes::MOST_BYTES];
-    let size = frame_bytes(head.edition);
-    judge_line(rest, head, s, &mut frame[..size], legs)
-}
-
 // A refusal of the line with this number.
 fn refused_at(refusal: Refusal, line: usize) -> Refused
     ensures { result ≡ refused_at refusal line }
@@ -140,11 +126,14 @@ fn judge_lines(lines: &[u8], first: &GoodHead, legs: &mut [u8]) -> Result<usize,
     ensures { told result ≡ told_of (lines_after first.now.bytes lines.now) }
 {
     let head = head_of(&first.bytes);
-    let line = 2 * frame_bytes(head.edition) + 1;
+    let size = frame_bytes(head.edition);
+    let line = 2 * size + 1;
+    let mut buffer = [0u8; sizes::MOST_BYTES];
+    let frame = &mut buffer[..size];
     let mut s: usize = 0;
     let mut rest = lines;
     while !rest.is_empty() {
-        segment_line(rest, head, s, legs).map_err(|refusal| refused_at(refusal, s + 2))?;
+        judge_line(rest, head, s, frame, legs).map_err(|refusal| refused_at(refusal, s + 2))?;
         rest = &rest[line..];
         s += 1;
     }

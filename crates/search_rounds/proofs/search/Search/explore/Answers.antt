@@ -1,4 +1,4 @@
--- A tolerance that met nothing is passed, and its labels are written over: what they were is kept.
+-- A tolerance that met nothing is passed, and its labels are written over: what they were is kept. So it is said of the one that met a goal.
 use Prim.Native.Nat.{ℕ, ◌+◌, ◌-◌}
 use mathlib.Core.Path.{◌≡◌, subst}
 use native.Mathlib.Omega.{arith}
@@ -17,6 +17,16 @@ loop-tolerance-preserved c =
       λ h. subst (λ (u : ℕ). Stopped ask u goals c.search_at.new.best c.search_at.new.previous None) here c.in_default.ensures,
       λ h. subst (λ (u : ℕ). NothingMet ask u goals) below (nothing_met (t - 1) (c.loop-tolerance.invariant.0 (omega (arith, h)))),
     )
+
+pub returns-in-Some : goal.returns-in-Some
+returns-in-Some c =
+    record {
+      low = omega arith;
+      high = omega arith;
+      below_limit = c.in-Some.ensures.0;
+      stop = c.in-Some.ensures.1;
+      none_below = λ h. nothing_met (c.loop-tolerance.tolerance - 1) (c.loop-tolerance.invariant.0 h);
+    }
 
 pub returns-in_default : goal.returns-in_default
 returns-in_default c =
