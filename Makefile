@@ -36,7 +36,7 @@ help:
 	@echo "make bench         times of archive and twin, as Markdown tables"
 	@echo "make instructions  instructions for a call of archive and twin (needs valgrind)"
 	@echo "make against       OLD=an earlier archive and this one, instructions and times of each call (needs valgrind)"
-	@echo "make stack         bytes of stack that each call takes"
+	@echo "make stack         bytes of stack that each call takes, about a town and about a county"
 	@echo "make examples      build and run the short C and Rust programs, compare what they print"
 
 lib:
@@ -100,11 +100,16 @@ instructions: $(LIB)
 against: $(if $(OLD),$(LIB))
 	rust/bench/against "$(OLD)"
 
-# Asked about the largest town of tests/.
+# Asked about the largest town of tests/, about that of edition 03, and about the largest county.
 stack: $(LIB)
 	mkdir -p target/examples
+	$(CARGO) build $(RUST) --quiet --package splicereel-towns
 	$(CC) -std=gnu11 -O2 -Wall -Wextra -Werror -Iinclude rust/bench/stack.c $(LIB) -o target/examples/stack
 	target/examples/stack tests/routes/thousand-grid.in
+	rust/target/release/town-gen grid 1 1000 3 > target/examples/town.txt
+	target/examples/stack target/examples/town.txt
+	rust/target/release/town-gen grid 1 8000 3 > target/examples/county.txt
+	target/examples/stack target/examples/county.txt
 
 # Those named short are asked about Block town, within tolerance 3 and within 4, and must print the same; a damaged text gets the refusal's words. Those
 # named refused show the refused line of that text and find Block town in order. Those named reach list what is in reach there, within two greatest lengths each.

@@ -5,7 +5,8 @@
 
 int main(int count, char **words)
 {
-    static uint8_t text[1 << 16], net[SPLICEREEL_MAX_NETWORK];
+    /* A byte more than the longest text that is accepted: a longer file is refused. */
+    static uint8_t text[SPLICEREEL_MAX_TEXT + 1], net[SPLICEREEL_MAX_NETWORK];
     static uint32_t best[SPLICEREEL_MAX_RUNS], previous[SPLICEREEL_MAX_RUNS];
     static uint16_t runs[SPLICEREEL_MAX_RUNS];
     uint32_t told[SPLICEREEL_TOLD] = { 0 };

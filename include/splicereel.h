@@ -10,11 +10,14 @@
  * otherwise; what else it has to tell stands in `told`. Refused line alone is
  * asked for a refusal: it returns a number other than 0 on every input, and
  * tells the line in `part`. The calls keep no pointer, allocate nothing and
- * have no state of their own: they may run in many threads at once. A call
- * about a town (at most SPLICEREEL_TOWN_NODES nodes and
- * SPLICEREEL_TOWN_SEGMENTS segments) takes less than 64 KiB of stack, and one
- * about a larger network less than 448 KiB; every network of editions 01 and 02
- * is a town.
+ * have no state of their own: they may run in many threads at once.
+ *
+ * A network of at most SPLICEREEL_TOWN_NODES nodes and
+ * SPLICEREEL_TOWN_SEGMENTS segments is a town, a larger one a county: its
+ * counts decide that, not its edition. Every network of editions 01 and 02 is a
+ * town, and so is a small one of edition 03. A call about a town takes less
+ * than 64 KiB of stack, and one about a county less than 448 KiB
+ * (SPLICEREEL_TOWN_STACK, SPLICEREEL_COUNTY_STACK).
  *
  * Rules for what is lent, the only ones:
  *
@@ -33,11 +36,15 @@
  * Segments are numbered from 0, in the order of their lines. Run 2s rides
  * segment s from its A end to its B end, run 2s + 1 from B to A.
  *
- * Editions 01 and 02 of the format are known, and a network is judged by the
- * rules of the edition that its head names. The frames of both are the same.
- * Edition 02 has a mark more, 16, a central two-way turn lane, and a control
- * more, 5, a signal with a bicycle left-turn improvement; under edition 01 they
- * are refused.
+ * Editions 01, 02 and 03 of the format are known, and a network is judged by
+ * the rules of the edition that its head names. The frames of 01 and 02 are the
+ * same. Edition 02 has a mark more, 16, a central two-way turn lane, and a
+ * control more, 5, a signal with a bicycle left-turn improvement; under edition
+ * 01 they are refused. Edition 03 has the rules, marks and controls of edition
+ * 02, and is for counties: up to 8,000 nodes and 8,000 segments in place of
+ * 1,000, and segments of up to 264,000 feet in place of 52,800. Its lengths
+ * have 4 bytes in place of 2, so that its segment frames have 32 bytes in place
+ * of 30.
  */
 #ifndef SPLICEREEL_H
 #define SPLICEREEL_H
@@ -47,22 +54,25 @@
 
 /* The version of this header and of the archive that it belongs to. */
 #define SPLICEREEL_VERSION_MAJOR 0
-#define SPLICEREEL_VERSION_MINOR 4
+#define SPLICEREEL_VERSION_MINOR 5
 #define SPLICEREEL_VERSION_PATCH 0
-#define SPLICEREEL_VERSION "0.4.0"
+#define SPLICEREEL_VERSION "0.5.0"
 
 #ifdef __cplusplus
 extern "C" {
 #endif
 
 enum {
-    /* Every network: none that Read can keep has more. Today that is the
-       largest of editions 01 and 02. */
-    SPLICEREEL_MAX_NODES = 1000,
-    SPLICEREEL_MAX_SEGMENTS = 1000,
-    /* Kept bytes, 7 and 30 for each segment: an output so long serves every
+    /* Every network: none that Read can keep has more. That is the largest of
+       edition 03. */
+    SPLICEREEL_MAX_NODES = 8000,
+    SPLICEREEL_MAX_SEGMENTS = 8000,
+    /* Bytes of the longest text that Read accepts: 15 for the head's line, and
+       65 for each segment's. */
+    SPLICEREEL_MAX_TEXT = 15 + 65 * SPLICEREEL_MAX_SEGMENTS,
+    /* Kept bytes, 7 and 32 for each segment: an output so long serves every
        network. */
-    SPLICEREEL_MAX_NETWORK = 7 + 30 * SPLICEREEL_MAX_SEGMENTS,
+    SPLICEREEL_MAX_NETWORK = 7 + 32 * SPLICEREEL_MAX_SEGMENTS,
     /* Runs, two for each segment: scratch and buffer so long serve every
        network. */
     SPLICEREEL_MAX_RUNS = 2 * SPLICEREEL_MAX_SEGMENTS,
@@ -70,8 +80,8 @@ enum {
        network. Marks for SPLICEREEL_MAX_NODES nodes do so too. */
     SPLICEREEL_MAX_LIST = 2 * SPLICEREEL_MAX_NODES,
 
-    /* A town: a network with at most so many. A call about one takes less
-       stack. */
+    /* A town: a network with at most so many, whatever its edition. A call
+       about one takes less stack. */
     SPLICEREEL_TOWN_NODES = 1000,
     SPLICEREEL_TOWN_SEGMENTS = 1000,
     /* Scratch and buffer so long serve every town. */
@@ -79,11 +89,20 @@ enum {
     /* A list so long serves every town. */
     SPLICEREEL_TOWN_LIST = 2 * SPLICEREEL_TOWN_NODES,
 
+    /* A call about a town takes less than so many bytes of stack, and one about
+       a county less than so many. */
+    SPLICEREEL_TOWN_STACK = 64 * 1024,
+    SPLICEREEL_COUNTY_STACK = 448 * 1024,
+
     /* Elements of `told`. */
     SPLICEREEL_TOLD = 8,
     /* Elements of `part`. */
     SPLICEREEL_PART = 2
 };
+
+/* Feet that no length which a call tells is above: 16,000 runs of 264,000 feet.
+   It fits 32 bits, but is no int and so no enumerator. */
+#define SPLICEREEL_MAX_FEET UINT32_C(4224000000)
 
 /* What a call returns. Where Read would refuse, Refused line returns Read's
    number. */
@@ -224,8 +243,8 @@ enum splicereel_measure {
     SPLICEREEL_REACH = 2,
     SPLICEREEL_SPEED = 3,
     SPLICEREEL_BLOCKING = 4,
-    /* Under edition 02 also beside a bike lane, where riding in the traffic is
-       the lower level. */
+    /* Under editions 02 and 03 also beside a bike lane, where riding in the
+       traffic is the lower level. */
     SPLICEREEL_MIXED_TRAFFIC = 5,
     SPLICEREEL_SEPARATE_PATH = 6
 };
@@ -275,10 +294,10 @@ uint32_t splicereel_refused_line(
  * (enum splicereel_measure). From version 0.2.0 on a reach of 27 and under
  * beside parking costs level 2, not 3, where the limit is below 25 mph or the
  * street is residential; Route and Least stress go by the same levels.
- * Under edition 02 a turn lane (mark 16) between one lane each way makes the
- * reach of a bike lane count 4 half feet more, and a street with a bike lane has
- * the level of mixed traffic where that is lower, by twice its lanes where it
- * is open both ways.
+ * Under editions 02 and 03 a turn lane (mark 16) between one lane each way
+ * makes the reach of a bike lane count 4 half feet more, and a street with a
+ * bike lane has the level of mixed traffic where that is lower, by twice its
+ * lanes where it is open both ways.
  * Refused: returns 8 or 12, told stays. The other elements of told stay.
  */
 uint32_t splicereel_judge_segment(
@@ -289,8 +308,8 @@ uint32_t splicereel_judge_segment(
 /*
  * Judge the movement from one run onto another.
  *
- * Returns 0: told[0] is the level, 1 to 4. Under edition 02 a signal is level 4,
- * and one with a bicycle left-turn improvement (control 5) level 1.
+ * Returns 0: told[0] is the level, 1 to 4. Under editions 02 and 03 a signal is
+ * level 4, and one with a bicycle left-turn improvement (control 5) level 1.
  * Refused: returns 8, 12 or 13, told stays. The other elements of told stay.
  */
 uint32_t splicereel_judge_movement(

@@ -1,7 +1,8 @@
 /*
  * Stack that each call takes: it runs on a painted stack of its own, and the
  * deepest byte that lost its paint tells. `stack TEXT` asks about the network in
- * the file, from its first node to its last, and says how large it is.
+ * the file, from its first node to its last, and says how large it is. The exit
+ * status is 1 where a call takes more than the header says.
  */
 #include "splicereel.h"
 
@@ -12,9 +13,8 @@
 enum {
     STACK = 1 << 20,
     PAINT = 0xA5,
-    /* The longest text that Read accepts, two digits for a byte and an 0A for a line, and one byte
-       more, so that a longer file is refused. */
-    TEXT = 2 * SPLICEREEL_MAX_NETWORK + (SPLICEREEL_MAX_SEGMENTS + 1) + 1
+    /* A byte more than the longest text that Read accepts, so that a longer file is refused. */
+    TEXT = SPLICEREEL_MAX_TEXT + 1
 };
 
 static uint8_t stack[STACK], text[TEXT], net[SPLICEREEL_MAX_NETWORK];
@@ -63,6 +63,32 @@ static size_t used_by(void (*call)(void)) {
     return sizeof stack - untouched;
 }
 
+static const struct {
+    const char *name;
+    void (*call)(void);
+} calls[] = {
+    {"Read", read},
+    {"Refused line", refused_line},
+    {"Judge a segment", judge_segment},
+    {"Judge a movement", judge_movement},
+    {"Route", route},
+    {"Least stress", least_stress},
+    {"Reach map", reach_map},
+    {"Nearest", nearest},
+};
+
+/* Prints what each call takes; how many of them take more than they may. */
+static int print_calls(size_t most) {
+    size_t frame = used_by(nothing);
+    int over = 0;
+    for (size_t i = 0; i < sizeof calls / sizeof *calls; i++) {
+        size_t used = used_by(calls[i].call) - frame;
+        printf("%s %zu%s\n", calls[i].name, used, used < most ? "" : ", more than the header says");
+        over += used >= most;
+    }
+    return over;
+}
+
 int main(int count, char **arguments) {
     FILE *file = count == 2 ? fopen(arguments[1], "rb") : NULL;
     if (file == NULL) {
@@ -79,16 +105,6 @@ int main(int count, char **arguments) {
     nodes = (size_t)net[2] << 8 | net[3];
     segments = (size_t)net[4] << 8 | net[5];
     int town = nodes <= SPLICEREEL_TOWN_NODES && segments <= SPLICEREEL_TOWN_SEGMENTS;
-    printf("%s of %zu nodes and %zu segments\n", town ? "Town" : "Network larger than a town", nodes,
-           segments);
-    size_t frame = used_by(nothing);
-    printf("Read %zu\n", used_by(read) - frame);
-    printf("Refused line %zu\n", used_by(refused_line) - frame);
-    printf("Judge a segment %zu\n", used_by(judge_segment) - frame);
-    printf("Judge a movement %zu\n", used_by(judge_movement) - frame);
-    printf("Route %zu\n", used_by(route) - frame);
-    printf("Least stress %zu\n", used_by(least_stress) - frame);
-    printf("Reach map %zu\n", used_by(reach_map) - frame);
-    printf("Nearest %zu\n", used_by(nearest) - frame);
-    return 0;
+    printf("%s of edition %02d, %zu nodes and %zu segments\n", town ? "Town" : "County", net[1], nodes, segments);
+    return print_calls(town ? SPLICEREEL_TOWN_STACK : SPLICEREEL_COUNTY_STACK) > 0;
 }

@@ -10,7 +10,7 @@ use splicereel::ffi::{self, Lent, Part, Scratch, Told};
 use std::hint::black_box;
 use towns::Town;
 use towns::draw::Rng;
-use towns::sizes::MOST_NODES;
+use towns::sizes::most_nodes;
 use towns::town::text_of;
 
 /// Which implementation is called.
@@ -158,8 +158,8 @@ impl Subject {
         let mut rng = Rng::new(seed);
         let net = town.bytes();
         let (segments, nodes) = (town.segments.len(), usize::from(town.nodes));
-        // Where a town may have one node more.
-        let lonely = nodes.min(MOST_NODES - 1);
+        // Where it may have one node more.
+        let lonely = nodes.min(most_nodes(town.edition) - 1);
         let lone = Town {
             nodes: lonely as u16 + 1,
             ..town.clone()
@@ -349,13 +349,20 @@ fn movements(rng: &mut Rng, net: &[u8]) -> Vec<(usize, usize)> {
 #[cfg(test)]
 mod tests {
     use super::{Call, QUESTIONS, Side, Subject};
-    use towns::draw::mixed_grid;
+    use towns::draw::{county_grid, mixed_grid};
+    use towns::town::COUNTY;
 
     /// What is timed is the same work: both sides answer every question alike.
     #[test]
     fn both_sides_answer_alike() {
-        for segments in [30, 125] {
-            let mut subject = Subject::new(&mixed_grid(11, segments), 11);
+        let copy = mixed_grid(11, 125).edition(COUNTY);
+        for town in [
+            mixed_grid(11, 30),
+            mixed_grid(11, 125),
+            copy,
+            county_grid(11, 1_100),
+        ] {
+            let mut subject = Subject::new(&town, 11);
             for call in Call::ALL {
                 let meant = match call {
                     Call::ReadLast => (2, false),

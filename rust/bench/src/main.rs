@@ -1,14 +1,17 @@
-//! `bench` times every call on the archive and on the twin and prints
-//! Markdown tables.
+//! `bench [towns|counties]` times every call on the archive and on the twin and
+//! prints Markdown tables, of towns, of edition 03, or all.
 
+mod counties;
 mod reach;
 mod texts;
 
 use bench::clock::microseconds;
 use bench::{Call, QUESTIONS, Side, Subject};
 use std::fs;
+use std::process::ExitCode;
 use towns::Town;
 use towns::draw::{self, Shape};
+use towns::program;
 use towns::sizes::MOST_SEGMENTS;
 
 /// Sizes of the first table, in segments; growth is from the first to the
@@ -142,7 +145,7 @@ fn subjects(town: impl Fn(u64) -> Town) -> Vec<Subject> {
 /// The cells of a row: times at each size, and growth.
 fn cells(sizes: &mut [Vec<Subject>], two: [Asked; 2]) {
     let turns = turns(sizes, two);
-    (0..SIZES.len()).for_each(|size| print!(" {} |", times(&turns, size).cell()));
+    (0..sizes.len()).for_each(|size| print!(" {} |", times(&turns, size).cell()));
     let (one, other) = growth(&turns);
     println!(" {one:.1} / {other:.1} |");
 }
@@ -153,15 +156,27 @@ fn by_size() {
         .iter()
         .map(|&segments| subjects(|seed| draw::mixed_grid(seed, segments)))
         .collect();
+    size_table(&SIZES, &mut sizes);
+    found_line(&SIZES, &mut sizes);
+}
+
+/// A row for each call, with a cell for the towns of each size.
+fn size_table(segments: &[usize], sizes: &mut [Vec<Subject>]) {
     print!("| call |");
-    SIZES.iter().for_each(|size| print!(" {size} segments |"));
-    println!(" growth |\n|---|---|---|---|---|---|");
+    segments
+        .iter()
+        .for_each(|size| print!(" {size} segments |"));
+    println!(" growth |\n|---|{}---|", "---|".repeat(segments.len()));
     for call in Call::ALL {
         print!("| {} |", call.title());
-        cells(&mut sizes, sides(call));
+        cells(sizes, sides(call));
     }
+}
+
+/// How many routes the towns of each size have.
+fn found_line(segments: &[usize], sizes: &mut [Vec<Subject>]) {
     print!("\nRoutes found, of a hundred pairs");
-    for (size, towns) in SIZES.iter().zip(&mut sizes) {
+    for (size, towns) in segments.iter().zip(sizes) {
         let counts: Vec<String> = (1..=4)
             .map(|tolerance| found(towns, Call::Route(tolerance)).to_string())
             .collect();
@@ -216,7 +231,27 @@ fn machine() -> String {
         .map_or_else(|| "unknown processor".into(), |(_, name)| name.to_string())
 }
 
-fn main() {
+fn main() -> ExitCode {
+    let words = program::words();
+    let parts: Vec<&str> = words.iter().map(String::as_str).collect();
+    let (towns, counties) = match parts[..] {
+        [] => (true, true),
+        ["towns"] => (true, false),
+        ["counties"] => (false, true),
+        _ => return program::usage("bench [towns|counties]"),
+    };
+    how();
+    if towns {
+        of_towns();
+    }
+    if counties {
+        of_counties();
+    }
+    ExitCode::SUCCESS
+}
+
+/// What the tables tell, and how it was measured.
+fn how() {
     println!("# Times\n");
     println!(
         "Microseconds of processor time for one call, archive / twin = **ratio**; medians of {SAMPLES} samples for each side, \
@@ -232,6 +267,9 @@ fn main() {
         env!("BENCH_RUSTC"),
         machine()
     );
+}
+
+fn of_towns() {
     println!(
         "Grids with mixed streets; growth is from {} segments to {}, sizes taken by turns, as archive / twin.\n",
         SIZES[0],
@@ -247,4 +285,20 @@ fn main() {
     reach::table();
     println!("\nRefused line beside Read, the archive alone, on the same text.\n");
     texts::table();
+}
+
+fn of_counties() {
+    let sizes = counties::COUNTIES;
+    println!(
+        "\nEdition 03: grids with mixed streets and links of up to 264,000 feet, many of them equally long; the first size is a town's, the \
+         others are counties'. Growth is from {} segments to {}.\n",
+        sizes[0],
+        sizes[sizes.len() - 1]
+    );
+    counties::by_size();
+    println!(
+        "A town as edition 03 beside the same town as edition 02, the archive alone: microseconds of 03 / of 02 = **ratio**. The towns are \
+         those of the first table with a head of edition 02.\n"
+    );
+    counties::by_copy();
 }

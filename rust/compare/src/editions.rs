@@ -1,5 +1,5 @@
-//! What is asked about editions 01 and 02: values that one of them has alone,
-//! streets and signals whose levels differ, and a town under either.
+//! What is asked about the rules of editions: values that some of them have alone,
+//! streets and signals whose levels differ, and a town under editions 01 and 02.
 
 use crate::question::Question;
 use crate::rounds::{Done, Subject, pair, two_nodes};
@@ -8,6 +8,7 @@ use oracle::Net;
 use splicereel::ffi::Told;
 use towns::draw::Rng;
 use towns::edition::{EDITIONS, all_marks};
+use towns::sizes::{most_feet, most_nodes, most_segments};
 use towns::town::{IMPROVED_SIGNAL, NEWER, OLDER, SIGNAL, Segment, TURN_LANE, Town, end};
 
 /// A case in an edition.
@@ -15,24 +16,30 @@ pub fn of(edition: u8, case: &str) -> String {
     format!("edition {edition}: {case}")
 }
 
-/// Every case in both editions.
-pub fn of_both(cases: &[String]) -> impl Iterator<Item = String> {
+/// Every case in every edition.
+pub fn of_each(cases: &[String]) -> impl Iterator<Item = String> {
     EDITIONS
         .into_iter()
         .flat_map(|edition| cases.iter().map(move |case| of(edition, case)))
 }
 
-/// The same town in edition 01, and without what that lacks.
-fn older(mut town: Town) -> Town {
+/// The same town in edition 01, and without what that lacks; none where it has
+/// more nodes or segments.
+pub fn older(mut town: Town) -> Option<Town> {
+    let size = (usize::from(town.nodes), town.segments.len());
+    if size.0 > most_nodes(OLDER) || size.1 > most_segments(OLDER) {
+        return None;
+    }
     for street in &mut town.segments {
         street.marks &= all_marks(OLDER);
+        street.length = street.length.min(most_feet(OLDER));
         for approach in [&mut street.at_b, &mut street.at_a] {
             if approach.control == IMPROVED_SIGNAL {
                 approach.control = SIGNAL;
             }
         }
     }
-    town.edition(OLDER)
+    Some(town.edition(OLDER))
 }
 
 /// Values at the limits of the editions, with the numbers of each kind.
@@ -57,9 +64,11 @@ fn value_case(what: &str, form: u8, [read, judge]: [u32; 2]) -> String {
 }
 
 /// A town with one of the values of [`VALUES`] and none else that is new, in
-/// either edition; and with a head that names no edition.
+/// every edition; and with a head that names no edition.
 pub fn values(comparer: &mut Comparer<'_>, rng: &mut Rng, subject: &Subject) -> Done {
-    let plain = older(subject.town.clone());
+    let Some(plain) = older(subject.town.clone()) else {
+        return Ok(());
+    };
     for byte in NO_EDITIONS {
         let [read, _] = both_say(comparer, rng, plain.clone().edition(byte), 0)?;
         let case = head_case(byte, read);
@@ -99,7 +108,7 @@ fn head_case(byte: u8, read: u32) -> String {
 }
 
 /// What Read says of a town's text, and Judge a segment of its bytes.
-fn both_say(
+pub fn both_say(
     comparer: &mut Comparer<'_>,
     rng: &mut Rng,
     town: Town,
@@ -157,8 +166,10 @@ fn lanes_case(ways: u8) -> String {
 /// Level and measure of a street alone by the rules of edition 01, from the
 /// slow implementation.
 fn older_level(street: Segment) -> (u8, u8) {
-    let town = older(Town::new(1000).with(street));
-    let net = Net::parse(&town.bytes());
+    // Where it lies and how long it is has no effect.
+    let (a, b) = (end(0, 0), end(0, 1));
+    let town = older(Town::new(1).with(Segment { a, b, ..street }));
+    let net = town.and_then(|town| Net::parse(&town.bytes()));
     net.and_then(|net| net.segment(0).ok()).unwrap_or((0, 0))
 }
 
@@ -182,7 +193,7 @@ fn parts(street: Segment) -> ((u8, u8), [u8; 2]) {
     (own, mixed)
 }
 
-/// Level and measure that edition 02 gives a street with a bike lane.
+/// Level and measure that the newer rules give a street with a bike lane.
 fn newer_level(street: Segment) -> (u8, u8) {
     let (own, mixed) = parts(street);
     let mixed = mixed[usize::from(street.ways == 3)];
@@ -190,14 +201,12 @@ fn newer_level(street: Segment) -> (u8, u8) {
 }
 
 /// Streets with bike lanes in the place of some of the town's, next to the
-/// limits that the newer rules ask about, in either edition: judged, and the
-/// ends of one as a pair.
+/// limits that the newer rules ask about, in every edition: judged, and the ends
+/// of one as a pair.
 pub fn streets(comparer: &mut Comparer<'_>, rng: &mut Rng, subject: &Subject) -> Done {
-    let plain = older(subject.town.clone());
-    if plain.segments.is_empty() {
-        return Ok(());
-    }
-    for _ in 0..4 {
+    let plain = older(subject.town.clone()).filter(|town| !town.segments.is_empty());
+    let Some(plain) = plain else { return Ok(()) };
+    for _ in 0..3 {
         let segment = rng.below(plain.segments.len());
         let street = near_the_limits(rng, plain.segments[segment]);
         for edition in EDITIONS {
@@ -301,7 +310,9 @@ const DIFFERENCES: [&str; 6] = [
 
 /// A town in both editions, without what 01 lacks: pairs at every tolerance.
 pub fn both(comparer: &mut Comparer<'_>, rng: &mut Rng, subject: &Subject) -> Done {
-    let plain = older(subject.town.clone());
+    let Some(plain) = older(subject.town.clone()) else {
+        return Ok(());
+    };
     let newer = Subject::new(plain.clone().edition(NEWER));
     let older = Subject::new(plain);
     for _ in 0..2 {
@@ -346,7 +357,7 @@ fn must_show_of_values(edition: u8) -> Vec<String> {
     for (what, numbers) in VALUES {
         let marks = what.starts_with("marks");
         for form in 0..4 {
-            let kept = edition == NEWER && numbers[0] <= 16 && (!marks || form != 3);
+            let kept = edition != OLDER && numbers[0] <= 16 && (!marks || form != 3);
             let kept = kept && numbers[0] != 6;
             let said = if kept { [0, 0] } else { [4, 8] };
             all.push(of(edition, &value_case(what, form, said)));
@@ -368,7 +379,7 @@ fn must_show_of_streets(edition: u8) -> Vec<String> {
         }
         for (limit, below) in limits(form).iter().flat_map(|l| BELOW.map(|b| (*l, b))) {
             cases.push(reach_case(form, limit, below, false));
-            if edition == NEWER {
+            if edition != OLDER {
                 cases.push(reach_case(form, limit, below, true));
                 cases.push(widened_case(form, limit));
             }

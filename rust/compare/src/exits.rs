@@ -1,6 +1,6 @@
 //! Which right-hand exits the movements that were judged had.
 
-use towns::sizes::{HEAD, SEGMENT};
+use crate::places::{self, WAYS};
 
 /// A movement onto another leg than the right-hand exit.
 pub const PASSED: &str = "exit: passed for another leg";
@@ -22,20 +22,16 @@ fn ends(frame: &[u8]) -> [Corner; 2] {
 
 /// What a movement between two runs of a network shows of right-hand exits.
 pub fn shown(net: &[u8], first: usize, second: usize) -> Vec<String> {
-    let frames = || net[HEAD..].chunks(SEGMENT);
-    let end = |run: usize, other: usize| {
-        let frame = &net[HEAD + SEGMENT * (run / 2)..];
-        ends(frame)[(run % 2) ^ other]
-    };
+    let end = |run: usize, other: usize| ends(places::frame(net, run / 2))[(run % 2) ^ other];
     let ((node, leg, _), (_, out, _)) = (end(first, 1), end(second, 0));
     let below = (1..8).map(|step| (leg + 8 - step) % 8);
     // The ends at the node by each leg below, with what closes them.
     let at = |wanted: u8| {
-        frames().find_map(|frame| {
+        places::frames(net).find_map(|frame| {
             let found = ends(frame)
                 .into_iter()
                 .find(|&(at, by, _)| (at, by) == (node, wanted));
-            found.map(|(.., closed)| frame[10] == closed)
+            found.map(|(.., closed)| places::street(net, frame)[WAYS] == closed)
         })
     };
     let Some((exit, closed)) = below

@@ -16,9 +16,12 @@
 
 mod agree;
 pub mod calls;
+mod counties;
 mod editions;
 mod exits;
+mod limits;
 mod lines;
+mod places;
 pub mod question;
 mod reach;
 mod reached;

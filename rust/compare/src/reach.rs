@@ -8,19 +8,24 @@ use crate::{Comparer, Mismatch};
 use oracle::Ways;
 use splicereel::ffi::Told;
 use towns::draw::Rng;
+use towns::edition::EDITIONS;
 use towns::lend::Lengths;
+use towns::sizes::most_feet;
 use towns::town::{Segment, Town, end};
 
 /// A node and its least length.
 type Entry = (usize, u32);
 
 /// The kinds of greatest length that maps are asked with.
-pub const GREATEST: [&str; 12] = [
+pub const GREATEST: [&str; 15] = [
     "0",
     "a node's",
     "one less than a node's",
     "one more than a node's",
     "one less and far more",
+    "2^31 - 1",
+    "2^31",
+    "2^31 + 1",
     "2^32 - 2",
     "2^32 - 1",
     "2^32",
@@ -28,6 +33,14 @@ pub const GREATEST: [&str; 12] = [
     "2^48",
     "2^63",
     "the greatest",
+];
+
+/// Lengths where 31 bits end, by the names of [`GREATEST`]: in a county there are
+/// nodes on either side.
+const HALF: [(usize, &str); 3] = [
+    ((1 << 31) - 1, "2^31 - 1"),
+    (1 << 31, "2^31"),
+    ((1 << 31) + 1, "2^31 + 1"),
 ];
 
 /// Lengths that exclude no node, by the names of [`GREATEST`]; where a narrower
@@ -80,6 +93,18 @@ struct Start<'a, 'c> {
 /// Maps from one node at every tolerance, cut at greatest lengths, held to
 /// routes; nearest nodes held to maps.
 pub fn reach(comparer: &mut Comparer<'_>, rng: &mut Rng, subject: &Subject) -> Done {
+    let (from, to) = two_nodes(rng, subject);
+    reach_of(comparer, rng, subject, from, to)
+}
+
+/// The same from a node; a route to another is asked for too.
+pub fn reach_of(
+    comparer: &mut Comparer<'_>,
+    rng: &mut Rng,
+    subject: &Subject,
+    from: usize,
+    to: usize,
+) -> Done {
     let large = subject.town.segments.len() > SLOW_SEGMENTS;
     let slow = if large && rng.chance(80) {
         None
@@ -88,7 +113,6 @@ pub fn reach(comparer: &mut Comparer<'_>, rng: &mut Rng, subject: &Subject) -> D
         comparer.reached.count(format!("slow maps: {size} town"));
         subject.net.clone().map(Ways::over)
     };
-    let (from, to) = two_nodes(rng, subject);
     let mut start = Start {
         comparer,
         subject,
@@ -102,6 +126,30 @@ pub fn reach(comparer: &mut Comparer<'_>, rng: &mut Rng, subject: &Subject) -> D
     start.routes(rng, tolerance, map, to)?;
     for kind in MARKS {
         start.nearest_of(rng, tolerance, map, kind)?;
+    }
+    Ok(())
+}
+
+/// The nearest where one node alone is marked: it is asked for within each
+/// tolerance, and held to a map.
+pub fn nearest_is(
+    comparer: &mut Comparer<'_>,
+    rng: &mut Rng,
+    subject: &Subject,
+    from: usize,
+    node: usize,
+) -> Done {
+    let mut start = Start {
+        comparer,
+        subject,
+        slow: None,
+        from,
+    };
+    let mut marks = vec![0; subject.nodes()];
+    marks[node] = rng.pick(&VALUES);
+    for tolerance in 1..=4 {
+        let map = start.map(rng, tolerance, usize::MAX)?;
+        start.nearest(rng, tolerance, &map, &marks)?;
     }
     Ok(())
 }
@@ -205,13 +253,14 @@ impl Start<'_, '_> {
             _ => rng.pick(&others).1 as usize,
         };
         let less = occurs.saturating_sub(1);
-        for (greatest, kind) in [
+        let kinds = [
             (0, "0"),
             (occurs, "a node's"),
             (less, "one less than a node's"),
             (occurs + 1, "one more than a node's"),
             (huge(rng, less), "one less and far more"),
-        ] {
+        ];
+        for (greatest, kind) in kinds.into_iter().chain([rng.pick(&HALF)]) {
             let cut = self.map(rng, tolerance, greatest)?;
             if let Err(complaint) = is_cut(map, greatest, &cut) {
                 let question = format!("from {}, {tolerance}, {greatest}: {cut:?}", self.from);
@@ -235,7 +284,7 @@ impl Start<'_, '_> {
             };
             let told = self.ask(rng, question)?.told();
             let route = (told[0] == 1).then_some((to, told[2]));
-            let entry = map.iter().find(|entry| entry.0 == to);
+            let entry = entry_of(map, to);
             if entry != route.as_ref() {
                 let question = format!("{question:?}: {route:?}, the map has {entry:?}");
                 return Err(self.complain(question, "map and route differ"));
@@ -249,7 +298,7 @@ impl Start<'_, '_> {
     /// The nearest of nodes marked in one of the ways of [`MARKS`].
     fn nearest_of(&mut self, rng: &mut Rng, tolerance: usize, map: &[Entry], kind: &str) -> Done {
         let nodes = self.subject.nodes();
-        let is_listed = |node: usize| map.iter().any(|entry| entry.0 == node);
+        let is_listed = |node: usize| entry_of(map, node).is_some();
         let one = match rng.below(3) {
             0 => rng.below(nodes),
             _ => rng.pick(map).0,
@@ -302,18 +351,24 @@ fn scratch_of(lengths: Lengths) -> [usize; 2] {
     [lengths.best, lengths.previous]
 }
 
+/// The entry of a node in a map, which has them in rising order.
+fn entry_of(map: &[Entry], node: usize) -> Option<&Entry> {
+    let place = map.binary_search_by_key(&node, |entry| entry.0);
+    place.ok().map(|place| &map[place])
+}
+
 /// Nodes of a map that are as far as one of the others.
 fn tied_nodes(rng: &mut Rng, map: &[Entry]) -> Vec<usize> {
-    let as_far = |feet: u32| map.iter().filter(move |entry| entry.1 == feet);
-    let tied: Vec<u32> = map
-        .iter()
-        .map(|entry| entry.1)
-        .filter(|&feet| as_far(feet).nth(1).is_some())
-        .collect();
+    let mut lengths: Vec<u32> = map.iter().map(|entry| entry.1).collect();
+    lengths.sort_unstable();
+    let equal = lengths.windows(2).filter(|pair| pair[0] == pair[1]);
+    let tied: Vec<u32> = equal.map(|pair| pair[0]).collect();
     if tied.is_empty() {
         return Vec::new();
     }
-    as_far(rng.pick(&tied)).map(|entry| entry.0).collect()
+    let feet = rng.pick(&tied);
+    let as_far = map.iter().filter(|entry| entry.1 == feet);
+    as_far.map(|entry| entry.0).collect()
 }
 
 pub fn greatest_case(kind: &str) -> String {
@@ -336,7 +391,7 @@ fn nearest_told(told: &Told) -> Option<Entry> {
 /// Of maps of every node in reach, at one tolerance and at the next.
 fn rises(lower: &[Entry], higher: &[Entry]) -> Result<(), &'static str> {
     for (node, feet) in lower {
-        match higher.iter().find(|entry| entry.0 == *node) {
+        match entry_of(higher, *node) {
             None => return Err("a higher tolerance loses a node"),
             Some((_, other)) if other > feet => return Err("a higher tolerance is longer"),
             _ => {}
@@ -384,12 +439,13 @@ pub fn ties(comparer: &mut Comparer<'_>, rng: &mut Rng) -> Done {
     let mut legs = [0, 1, 2, 3, 4, 5, 6, 7];
     rng.shuffle(&mut others);
     rng.shuffle(&mut legs);
-    let feet = rng.range(1, 52_800) as u16;
-    let mut town = Town::new(nodes as u16);
+    let edition = rng.pick(&EDITIONS);
+    let feet = rng.range(1, most_feet(edition) as usize) as u32;
+    let mut town = Town::new(nodes as u16).edition(edition);
     for (&node, leg) in others.iter().zip(legs) {
-        let (here, there) = (end(from as u16, leg), end(node as u16, leg));
-        let ends = rng.pick(&[(here, there), (there, here)]);
-        town.segments.push(Segment::path(ends.0, ends.1, feet));
+        let ends = [from, node].map(|node| end(node as u16, leg));
+        let [a, b] = rng.pick(&[ends, [ends[1], ends[0]]]);
+        town.segments.push(Segment::path(a, b, feet));
     }
     let (one, two) = (rng.below(others.len()), rng.below(others.len()));
     let mut marks = vec![0; nodes];
@@ -397,8 +453,8 @@ pub fn ties(comparer: &mut Comparer<'_>, rng: &mut Rng) -> Done {
         marks[others[place]] = rng.pick(&VALUES);
     }
     if one != two {
-        let order =
-            |numbers: (usize, usize)| (numbers.0 < numbers.1) == (others[one] < others[two]);
+        let lower = others[one] < others[two];
+        let order = |numbers: (usize, usize)| (numbers.0 < numbers.1) == lower;
         let legs = (usize::from(legs[one]), usize::from(legs[two]));
         for (lower, place) in [(order((one, two)), 0), (order(legs), 2)] {
             let tie = TIES[place + usize::from(lower)];
@@ -414,7 +470,7 @@ pub fn ties(comparer: &mut Comparer<'_>, rng: &mut Rng) -> Done {
         from,
     };
     let tolerance = rng.range(1, 4);
-    let map = start.map(rng, tolerance, usize::from(feet))?;
+    let map = start.map(rng, tolerance, feet as usize)?;
     start.nearest(rng, tolerance, &map, &marks)
 }
 
@@ -466,12 +522,12 @@ pub fn odd(comparer: &mut Comparer<'_>, rng: &mut Rng, subject: &Subject) -> Don
     Ok(())
 }
 
-/// Bytes that are no network, whatever else is asked.
-pub fn of_no_network(comparer: &mut Comparer<'_>, rng: &mut Rng, bad: &Subject) -> Done {
+/// One kind of each, for bytes that are no network or a large one.
+pub fn some_odd(comparer: &mut Comparer<'_>, rng: &mut Rng, subject: &Subject) -> Done {
     let (list, marks) = (rng.pick(&LISTS), rng.pick(&MARKED));
     let scratch = rng.pick(&SCRATCH);
-    odd_map(comparer, rng, bad, list, scratch)?;
-    odd_nearest(comparer, rng, bad, marks, scratch)
+    odd_map(comparer, rng, subject, list, scratch)?;
+    odd_nearest(comparer, rng, subject, marks, scratch)
 }
 
 fn odd_map(

@@ -1,14 +1,14 @@
 //! What the comparisons reached, so that nothing is left out unseen.
 
 use crate::editions::{self, control_case};
-use crate::exits;
 use crate::lines::{self, EDGES, LENGTHS};
+use crate::places::{self, CONTROLS, FORM, MARKS, REACH, SPEED, counts};
 use crate::question::{Question, Seen};
-use crate::reach::{self, GREATEST, LISTS, MARKED, MARKS, SCRATCH, TIES, VALUES};
+use crate::reach::{self, GREATEST, LISTS, MARKED, SCRATCH, TIES, VALUES};
+use crate::{counties, exits, limits};
 use std::collections::BTreeMap;
 use std::fmt;
 use towns::draw::Shape;
-use towns::sizes::{HEAD, SEGMENT};
 use towns::town::RESIDENTIAL;
 
 /// How often each thing was reached.
@@ -52,6 +52,9 @@ impl Reached {
             }
         });
         self.details(bytes, question, seen);
+        for case in counties::shown(bytes, question, seen) {
+            self.count(case);
+        }
     }
 
     /// Counts what else an answer shows.
@@ -134,7 +137,7 @@ impl fmt::Display for Reached {
 }
 
 /// The call's name.
-fn name(question: Question<'_>) -> &'static str {
+pub fn name(question: Question<'_>) -> &'static str {
     match question {
         Question::Read { .. } => "read",
         Question::RefusedLine { .. } => "refused line",
@@ -169,20 +172,15 @@ fn map_case(tolerance: usize, listed: usize, nodes: usize) -> String {
     format!("map tolerance {tolerance}: {size}")
 }
 
-/// The nodes and segments of a network, as its head has them.
-fn counts(net: &[u8]) -> (usize, usize) {
-    let field = |at: usize| usize::from(u16::from_be_bytes([net[at], net[at + 1]]));
-    (field(2), field(4))
-}
-
 /// The edition of a text whose head is in order.
-fn edition_of_text(text: &[u8]) -> u8 {
+pub fn edition_of_text(text: &[u8]) -> u8 {
     text[3] - b'0' // its second byte is below 10
 }
 
 /// The control that a run of a network meets where it arrives.
 fn control(net: &[u8], run: usize) -> u8 {
-    net[HEAD + SEGMENT * (run / 2) + [15, 22][run % 2]]
+    let street = places::street(net, places::frame(net, run / 2));
+    street[CONTROLS[run % 2]]
 }
 
 /// What a refused line was.
@@ -210,9 +208,8 @@ fn parking_case(reach: &str, speed: &str, street: &str) -> String {
 /// Where a segment of a network lies between those limits, if it is beside
 /// parking.
 fn beside_parking(net: &[u8], segment: usize) -> Option<String> {
-    let frame = &net[HEAD + SEGMENT * segment..][..SEGMENT];
-    // These fields follow the kind, two ends of three bytes and the length.
-    let &[form, _ways, _lanes, speed, reach, marks] = frame.get(9..15)?.first_chunk()?;
+    let street = places::street(net, places::frame(net, segment));
+    let [form, speed, reach, marks] = [FORM, SPEED, REACH, MARKS].map(|at| street[at]);
     let place = |limit: u8, number: u8| match number {
         _ if number < limit => 0,
         _ if number == limit => 1,
@@ -238,7 +235,7 @@ fn first_line(number: u32) -> usize {
 }
 
 /// Where in a text a line lies.
-fn position(text: &[u8], number: u32, line: usize) -> &'static str {
+pub fn position(text: &[u8], number: u32, line: usize) -> &'static str {
     let lines = text.split_inclusive(|&byte| byte == b'\n').count();
     if line <= first_line(number) {
         "first"
@@ -265,7 +262,7 @@ pub const ROOMS: [&str; 10] = [
 
 /// Everything that questions about texts have to reach.
 fn must_reach_in_texts() -> Vec<String> {
-    let mut all: Vec<String> = editions::of_both(&["read kept".into()]).collect();
+    let mut all: Vec<String> = editions::of_each(&["read kept".into()]).collect();
     for call in ["read refused", "refused line:"] {
         for number in 1..=6 {
             for position in ["first", "middle", "last"] {
@@ -295,7 +292,7 @@ fn must_reach_in_maps() -> Vec<String> {
         all.extend([8, 9, 10, 11, 15].map(|number| reach::few_case(call, number)));
     }
     all.extend(GREATEST.map(reach::greatest_case));
-    all.extend(MARKS.map(reach::marks_case));
+    all.extend(reach::MARKS.map(reach::marks_case));
     all.extend(VALUES.map(reach::value_case));
     all.extend(LISTS.map(|kind| format!("list: {kind}")));
     all.extend(MARKED.map(|kind| format!("marks lent: {kind}")));
@@ -340,8 +337,10 @@ fn must_reach() -> Vec<String> {
                 .map(|number| format!("{call} refused {number}")),
         );
     }
-    all.extend(editions::of_both(&must_reach_in_levels()));
+    all.extend(editions::of_each(&must_reach_in_levels()));
     all.extend(editions::must_show());
+    all.extend(counties::must_show());
+    all.extend(limits::must_show());
     all.extend(exits::must_show());
     for call in ["route", "least"] {
         all.extend(["empty", "ridden"].map(|size| format!("{call} {size} route")));

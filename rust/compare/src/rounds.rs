@@ -3,13 +3,13 @@
 
 use crate::question::Question;
 use crate::reached::ROOMS;
-use crate::{Comparer, Mismatch, editions, lines, reach};
+use crate::{Comparer, Mismatch, counties, editions, limits, lines, reach};
 use oracle::Net;
 use splicereel::ffi::Told;
-use splicereel::{MAX_NETWORK, TOWN_SEGMENTS};
 use towns::draw::{self, Rng, Shape, Spot, damage, damage_kept};
 use towns::edition::{EDITIONS, all_marks};
 use towns::lend::Lengths;
+use towns::sizes::MOST_SEGMENTS;
 use towns::town::{Town, text_of};
 
 pub type Done = Result<(), Box<Mismatch>>;
@@ -40,24 +40,13 @@ impl Subject {
     }
 }
 
-/// Every comparison of a round.
+/// Every comparison of a round: mostly about a town, now and then about a county.
 pub fn play(comparer: &mut Comparer<'_>, rng: &mut Rng) -> Done {
-    let shapes = Shape::ALL.len() as u64;
-    let shape = Shape::ALL[(comparer.round % shapes) as usize];
-    let segments = match rng.below(100) {
-        0..=79 => rng.range(0, 14),
-        80..=97 => rng.range(15, 120),
-        _ => rng.range(TOWN_SEGMENTS - 100, TOWN_SEGMENTS),
-    };
-    let seed = rng.bits();
-    let edition = rng.pick(&EDITIONS);
-    let town = draw::town_of(edition, shape, seed, segments);
-    comparer.about = format!(
-        "{} of edition {edition} from seed {seed}, {segments} segments",
-        shape.name()
-    );
-    comparer.reached.count(format!("shape: {}", shape.name()));
-    let subject = Subject::new(town);
+    let turn = comparer.round / counties::ROUNDS;
+    if comparer.round % counties::ROUNDS == counties::ROUNDS - 1 {
+        return counties::play(comparer, rng, turn);
+    }
+    let subject = some_town(comparer, rng);
     texts(comparer, rng, &subject)?;
     noise(comparer, rng, &subject)?;
     lines::edges(comparer, rng, &subject)?;
@@ -71,8 +60,32 @@ pub fn play(comparer: &mut Comparer<'_>, rng: &mut Rng) -> Done {
     editions::values(comparer, rng, &subject)?;
     editions::streets(comparer, rng, &subject)?;
     editions::both(comparer, rng, &subject)?;
+    limits::heads(comparer, rng)?;
+    limits::lengths(comparer, rng, &subject)?;
+    limits::widths(comparer, rng, &subject)?;
+    limits::copies(comparer, rng, &subject)?;
     narrow_parking(comparer, rng, subject)?;
     reach::ties(comparer, rng)
+}
+
+/// The town of a round: of the shapes by turns, and of any edition.
+fn some_town(comparer: &mut Comparer<'_>, rng: &mut Rng) -> Subject {
+    let shapes = Shape::ALL.len() as u64;
+    let shape = Shape::ALL[(comparer.round % shapes) as usize];
+    let segments = match rng.below(100) {
+        0..=79 => rng.range(0, 14),
+        80..=97 => rng.range(15, 120),
+        _ => rng.range(MOST_SEGMENTS - 100, MOST_SEGMENTS),
+    };
+    let seed = rng.bits();
+    let edition = rng.pick(&EDITIONS);
+    let town = draw::town_of(edition, shape, seed, segments);
+    comparer.about = format!(
+        "{} of edition {edition} from seed {seed}, {segments} segments",
+        shape.name()
+    );
+    comparer.reached.count(format!("shape: {}", shape.name()));
+    Subject::new(town)
 }
 
 /// The good text with enough room and too little, and each fault at the first
@@ -107,7 +120,7 @@ fn noise(comparer: &mut Comparer<'_>, rng: &mut Rng, subject: &Subject) -> Done 
         for _ in 0..rng.range(1, 3) {
             draw::change(rng, &mut text);
         }
-        let room = rng.pick(&[subject.bytes.len(), MAX_NETWORK, 67, 7]);
+        let room = rng.pick(&[subject.bytes.len(), 30_007, 67, 7]);
         lines::text(comparer, rng, &text, room)?;
     }
     for _ in 0..6 {
@@ -168,7 +181,7 @@ fn segments_judged(comparer: &mut Comparer<'_>, rng: &mut Rng, subject: &Subject
 
 /// A run that leaves the node where another arrives, if there is one that the
 /// search meets soon.
-fn next_run(rng: &mut Rng, town: &Town, first: usize) -> Option<usize> {
+pub fn next_run(rng: &mut Rng, town: &Town, first: usize) -> Option<usize> {
     let segment = town.segments.get(first / 2)?;
     let node = if first % 2 == 0 { segment.b } else { segment.a }.node;
     let runs = 2 * town.segments.len();
@@ -331,11 +344,22 @@ fn room(rng: &mut Rng, runs: usize, kind: &str) -> Lengths {
 /// comes first.
 fn odd_searches(comparer: &mut Comparer<'_>, rng: &mut Rng, subject: &Subject) -> Done {
     for kind in ROOMS {
-        comparer.reached.count(format!("room: {kind}"));
-        for least in [false, true] {
-            let question = odd_search(rng, subject, kind, least);
-            comparer.compare(rng, subject.net.as_ref(), &subject.bytes, question)?;
-        }
+        odd_searches_of(comparer, rng, subject, kind)?;
+    }
+    Ok(())
+}
+
+/// One kind of room, by Route and by Least stress.
+pub fn odd_searches_of(
+    comparer: &mut Comparer<'_>,
+    rng: &mut Rng,
+    subject: &Subject,
+    kind: &str,
+) -> Done {
+    comparer.reached.count(format!("room: {kind}"));
+    for least in [false, true] {
+        let question = odd_search(rng, subject, kind, least);
+        comparer.compare(rng, subject.net.as_ref(), &subject.bytes, question)?;
     }
     Ok(())
 }
@@ -388,7 +412,7 @@ fn no_networks(comparer: &mut Comparer<'_>, rng: &mut Rng, subject: &Subject) ->
             bytes: bad,
             net: None,
         };
-        reach::of_no_network(comparer, rng, &bad)?;
+        reach::some_odd(comparer, rng, &bad)?;
     }
     Ok(())
 }

@@ -7,11 +7,11 @@ use compare::Comparer;
 use compare::calls::{Archive, Calls, Reach, Twin};
 use splicereel::ffi::{Lent, Part, Scratch, Told};
 use towns::draw;
-use towns::sizes::{HEAD, SEGMENT};
-use towns::town::{NEWER, SIGNAL};
+use towns::sizes::{HEAD, segment_bytes};
+use towns::town::{COUNTY, OLDER, SIGNAL};
 
-/// Rounds of about 390 comparisons each; a mismatch tells how to replay it.
-const ROUNDS: u64 = 1_500;
+/// Rounds of about 510 comparisons each; a mismatch tells how to replay it.
+const ROUNDS: u64 = 1_200;
 
 #[test]
 fn archive_and_twin_agree() {
@@ -114,9 +114,34 @@ enum Fault {
     FoundWhereNone,
     ToldOnNearestNone,
     ToldOnEntriesRefused,
+    HighBytesBy256,
+    LowTwoBytes,
+    LowThreeBytes,
+    LengthTo264001,
+    LengthTo65535Under02,
+    LengthTo52800Under03,
+    CountsOf03Under02,
+    CountsOf02Under03,
+    ShortFramesUnder03,
+    LongFramesUnder02,
+    LanesNotMoved,
+    OlderLevelsUnder03,
+    OlderSignalsUnder03,
+    Edition04,
+    No03,
+    MemoryOfATown,
+    RunsOfATown,
+    RunIn13Bits,
+    LineIn12Bits,
+    LengthIn31Bits,
+    NoneAbove31Bits,
+    MapIn31Bits,
+    NearestIn31Bits,
+    EachStreetOnce,
+    OutputOfShortFrames,
 }
 
-const FAULTS: [Fault; 82] = [
+const FAULTS: [Fault; 107] = [
     Fault::Line,
     Fault::ByteKept,
     Fault::OutputPastTheEnd,
@@ -199,6 +224,31 @@ const FAULTS: [Fault; 82] = [
     Fault::FoundWhereNone,
     Fault::ToldOnNearestNone,
     Fault::ToldOnEntriesRefused,
+    Fault::HighBytesBy256,
+    Fault::LowTwoBytes,
+    Fault::LowThreeBytes,
+    Fault::LengthTo264001,
+    Fault::LengthTo65535Under02,
+    Fault::LengthTo52800Under03,
+    Fault::CountsOf03Under02,
+    Fault::CountsOf02Under03,
+    Fault::ShortFramesUnder03,
+    Fault::LongFramesUnder02,
+    Fault::LanesNotMoved,
+    Fault::OlderLevelsUnder03,
+    Fault::OlderSignalsUnder03,
+    Fault::Edition04,
+    Fault::No03,
+    Fault::MemoryOfATown,
+    Fault::RunsOfATown,
+    Fault::RunIn13Bits,
+    Fault::LineIn12Bits,
+    Fault::LengthIn31Bits,
+    Fault::NoneAbove31Bits,
+    Fault::MapIn31Bits,
+    Fault::NearestIn31Bits,
+    Fault::EachStreetOnce,
+    Fault::OutputOfShortFrames,
 ];
 
 /// The twin with one fault.
@@ -222,7 +272,8 @@ impl Faulty {
 /// stepping down from a leg is stepping up from it.
 fn mirrored(net: &[u8]) -> Vec<u8> {
     let mut net = net.to_vec();
-    for frame in net[HEAD..].chunks_exact_mut(SEGMENT) {
+    let size = segment_bytes(net[1]);
+    for frame in net[HEAD..].chunks_exact_mut(size) {
         for leg in [3, 6] {
             frame[leg] = (8 - frame[leg]) % 8;
         }
@@ -235,10 +286,11 @@ fn mirrored(net: &[u8]) -> Vec<u8> {
 /// and is left by no open run, and the two runs in it.
 fn without_closed(net: &[u8], first: usize, second: usize) -> (Vec<u8>, [usize; 2]) {
     let (head, frames) = net.split_at(HEAD);
-    let frames: Vec<&[u8]> = frames.chunks_exact(SEGMENT).collect();
+    let size = segment_bytes(net[1]);
+    let frames: Vec<&[u8]> = frames.chunks_exact(size).collect();
     let node = &frames[first / 2][[4, 1][first % 2]..][..2];
     let stays = |s: usize| {
-        let (a, b, ways) = (&frames[s][1..3], &frames[s][4..6], frames[s][10]);
+        let (a, b, ways) = (&frames[s][1..3], &frames[s][4..6], frames[s][size - 20]);
         let closed = a != b && (a == node && ways == 2 || b == node && ways == 1);
         [first / 2, second / 2].contains(&s) || !closed
     };
@@ -255,10 +307,11 @@ fn without_closed(net: &[u8], first: usize, second: usize) -> (Vec<u8>, [usize; 
     )
 }
 
-/// Whether a run of a network of edition 02 arrives at a signal.
+/// Whether a run of a network that has the newer rules arrives at a signal.
 fn signal_ahead(net: &[u8], run: usize) -> bool {
-    let frame = &net[HEAD + SEGMENT * (run / 2)..];
-    net[1] == NEWER && frame[[15, 22][run % 2]] == SIGNAL
+    let size = segment_bytes(net[1]);
+    let frame = &net[HEAD + size * (run / 2)..];
+    net[1] != OLDER && frame[size - [15, 8][run % 2]] == SIGNAL
 }
 
 /// Changes the number at an index, if there is one.
@@ -280,6 +333,8 @@ impl Calls for Faulty {
         let number = Twin.read(&self.mistyped(text), output, told);
         match (self.0, number) {
             (Fault::Line, 1..) => told[0] += 1,
+            (Fault::LineIn12Bits, 1..) => told[0] &= 0xFFF,
+            (Fault::OutputOfShortFrames, 7) => return self.read_into_less(text, output, told),
             (Fault::ByteKept, 0) => spoil(output, told[0] as usize - 1),
             (Fault::OutputPastTheEnd, 0) => spoil(output, told[0] as usize),
             (Fault::OutputOnRefusal, 1..) => spoil(output, 0),
@@ -334,6 +389,10 @@ impl Calls for Faulty {
         match (self.0, number) {
             (Fault::SignalOntoTheExit, 0) if signal_ahead(net, first) => {
                 told[0] = 4;
+                number
+            }
+            (Fault::OlderSignalsUnder03, 0) if net[1] == COUNTY && signal_ahead(net, first) => {
+                told[0] = 1;
                 number
             }
             (Fault::ExitAbove, 0) => Twin.judge_movement(&mirrored(net), first, second, told),
@@ -396,6 +455,7 @@ impl Calls for Faulty {
             _ => Twin.reach_map(&self.misread(net), asked, again, list, told),
         };
         self.spoil_map(number, reach, list, told, &before);
+        self.spoil_far_map(number, list, told, &before);
         self.spoil_entries(number, list.len() < 2 * nodes, scratch, told)
     }
 
@@ -426,10 +486,67 @@ impl Calls for Faulty {
                 told[0] = 0;
             }
             (Fault::FoundWhereNone, 0, 0) => (told[0], told[1], told[2]) = (1, 0, 0),
+            (Fault::NearestIn31Bits, 0, 1) => told[2] &= IN_31_BITS,
             (Fault::ToldOnNearestNone, 0, 0) => told[1] = 0,
             _ => {}
         }
         self.spoil_entries(number, marks.len() < nodes, scratch, told)
+    }
+}
+
+/// What 31 bits hold.
+const IN_31_BITS: u32 = (1 << 31) - 1;
+
+impl Faulty {
+    /// Read by a program that asks for an output as if all frames had 30 bytes.
+    fn read_into_less(&self, text: &[u8], output: &mut [u8], told: &mut Told) -> u32 {
+        let digits = str::from_utf8(&text[8..12]).unwrap_or("0");
+        let segments = usize::from_str_radix(digits, 16).unwrap_or(0);
+        if output.len() < HEAD + segment_bytes(OLDER) * segments {
+            return 7;
+        }
+        let mut longer = vec![0; HEAD + segment_bytes(COUNTY) * segments];
+        let number = Twin.read(text, &mut longer, told);
+        if number == 0 {
+            output.copy_from_slice(&longer[..output.len()]);
+        }
+        number
+    }
+
+    /// What comes back of a map by a program whose memory or lengths are too
+    /// small for a county.
+    fn spoil_far_map(&self, number: u32, list: &mut [u32], told: &mut Told, before: &[u32]) {
+        if number != 0 {
+            return;
+        }
+        let last = 2 * told[0] as usize;
+        let (entries, _) = list[..last].as_chunks_mut::<2>();
+        match self.0 {
+            Fault::MapIn31Bits => entries.iter_mut().for_each(|entry| entry[1] &= IN_31_BITS),
+            Fault::MemoryOfATown => {
+                let seen = |entry: &&[u32; 2]| (entry[0] as usize) < self.nodes_seen();
+                let count = entries.iter().filter(seen).count();
+                list[2 * count..last].copy_from_slice(&before[2 * count..last]);
+                told[0] = count as u32;
+            }
+            _ => {}
+        }
+    }
+
+    /// What comes back from a search by a program that does not expect a county's
+    /// routes; whether it says none.
+    fn spoil_far_route(&self, lent: &mut Lent<'_>, told: &mut Told) -> bool {
+        let place = lent.place;
+        let runs = &mut lent.buffer[place..place + told[1] as usize];
+        match self.0 {
+            Fault::RunsOfATown => return told[1] > 2_000,
+            Fault::NoneAbove31Bits => return told[2] > IN_31_BITS,
+            Fault::EachStreetOnce => return runs.iter().any(|run| runs.contains(&(run ^ 1))),
+            Fault::RunIn13Bits => runs.iter_mut().for_each(|run| *run &= 0x1FFF),
+            Fault::LengthIn31Bits => told[2] &= IN_31_BITS,
+            _ => {}
+        }
+        false
     }
 }
 
@@ -569,11 +686,17 @@ impl Faulty {
     fn spoil_search(
         &self,
         number: u32,
-        lent: Lent<'_>,
+        mut lent: Lent<'_>,
         told: &mut Told,
         before: (Vec<u16>, Told),
     ) -> u32 {
         let (place, (buffer, garbage)) = (lent.place, before);
+        if (number, told[0]) == (0, 1) && self.spoil_far_route(&mut lent, told) {
+            *told = garbage;
+            told[0] = 0;
+            lent.buffer.copy_from_slice(&buffer);
+            return number;
+        }
         let last = place.saturating_add(told[1] as usize);
         match (self.0, number, told[0]) {
             (Fault::Count, 0, 1) => told[1] += 1,

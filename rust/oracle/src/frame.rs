@@ -3,12 +3,11 @@
 
 /// Bytes of a head.
 pub(crate) const HEAD: usize = 7;
-/// Bytes of a segment frame.
-pub(crate) const SEGMENT: usize = 30;
-/// The most nodes of a network.
-pub(crate) const MOST_NODES: u32 = 1_000;
-/// The most segments of a network.
-const MOST_SEGMENTS: u32 = 1_000;
+/// Bytes of a segment frame, by edition - 1: Note 6 of document 02 makes the
+/// length of edition 03 two bytes longer.
+const SEGMENT: [usize; 3] = [30, 30, 32];
+/// The most nodes, and the most segments, of a network, by edition - 1.
+const MOST: [u32; 3] = [1_000, 1_000, 8_000];
 
 /// Bytes taken one after another.
 pub(crate) struct Taker<'a>(pub std::slice::Iter<'a, u8>);
@@ -21,6 +20,11 @@ impl Taker<'_> {
     pub fn two(&mut self) -> Option<u32> {
         let high = self.one()?;
         Some(256 * high + self.one()?)
+    }
+
+    pub fn four(&mut self) -> Option<u32> {
+        let high = self.two()?;
+        Some(65_536 * high + self.two()?)
     }
 }
 
@@ -41,7 +45,7 @@ pub(crate) fn sum_is_zero(bytes: &[u8]) -> bool {
 /// What a head says.
 #[derive(Clone, Copy, Debug)]
 pub(crate) struct Head {
-    /// 1 or 2.
+    /// 1, 2 or 3.
     pub edition: u32,
     pub nodes: u32,
     pub segments: usize,
@@ -52,13 +56,19 @@ impl Head {
     pub fn parse(head: &[u8]) -> Option<Head> {
         let mut t = Taker(head.iter());
         let _kind = t.one()?;
-        let edition = within(t.one()?, 1, 2)?;
-        let nodes = within(t.two()?, 1, MOST_NODES)?;
-        let segments = within(t.two()?, 0, MOST_SEGMENTS)? as usize;
+        let edition = within(t.one()?, 1, 3)?;
+        let most = MOST[edition as usize - 1];
+        let nodes = within(t.two()?, 1, most)?;
+        let segments = within(t.two()?, 0, most)? as usize;
         Some(Head {
             edition,
             nodes,
             segments,
         })
+    }
+
+    /// Bytes of a segment frame of this edition.
+    pub fn segment_size(self) -> usize {
+        SEGMENT[self.edition as usize - 1]
     }
 }

@@ -1,7 +1,7 @@
 //! Bicycle stress levels and least-stress routes once more, simple and slow.
 //!
-//! Written from "document 01" and Notes 1 to 5 of "document 02" alone, it shares
-//! no code with any other implementation, and nothing here was made faster:
+//! Written from "document 01" and Notes 1 to 6 of "document 02" alone, it shares
+//! no code with any other implementation, and nothing here was made to be fast:
 //! bytes are parsed into plain fields, the levels are looked up in tables, every
 //! movement is listed in advance, and lengths are relaxed over that list until
 //! nothing changes. Its answers are what tests store, and what the others are

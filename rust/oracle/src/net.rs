@@ -1,13 +1,16 @@
 //! A network: its runs and movements, and routes over them.
 
-use crate::frame::{HEAD, Head, SEGMENT, sum_is_zero};
+use crate::frame::{HEAD, Head, sum_is_zero};
 use crate::street::Street;
+use std::collections::{BTreeMap, BTreeSet};
 
 /// A parsed network.
 #[derive(Clone, Debug)]
 pub struct Net {
     nodes: u32,
     streets: Vec<Street>,
+    /// Node and leg of every end of a segment, with the run that leaves there.
+    corners: BTreeMap<(u32, u32), usize>,
 }
 
 impl Net {
@@ -18,26 +21,31 @@ impl Net {
             return None;
         }
         let head = Head::parse(head)?;
-        if frames.len() != SEGMENT * head.segments {
+        let size = head.segment_size();
+        if frames.len() != size * head.segments {
             return None;
         }
         let mut streets = Vec::new();
-        let mut taken = Vec::new();
-        for frame in frames.chunks(SEGMENT) {
+        let mut corners = BTreeMap::new();
+        for (s, frame) in frames.chunks(size).enumerate() {
             if frame[0] != 2 || !sum_is_zero(frame) {
                 return None;
             }
-            let street = Street::parse(&frame[1..SEGMENT - 1], head)?;
-            for end in street.ends {
-                if taken.contains(&end) {
+            let street = Street::parse(&frame[1..size - 1], head)?;
+            // Run 2s leaves by the A end, run 2s + 1 by the B end.
+            for (run, end) in (2 * s..).zip(street.ends) {
+                if corners.insert(end, run).is_some() {
                     return None;
                 }
-                taken.push(end);
             }
             streets.push(street);
         }
         let nodes = head.nodes;
-        Some(Net { nodes, streets })
+        Some(Net {
+            nodes,
+            streets,
+            corners,
+        })
     }
 
     /// N.
@@ -75,9 +83,7 @@ impl Net {
     }
 
     fn used(&self, node: u32, leg: u32) -> bool {
-        self.streets
-            .iter()
-            .any(|street| street.ends.contains(&(node, leg)))
+        self.corners.contains_key(&(node, leg))
     }
 
     /// The used leg next below `leg`, going round.
@@ -118,10 +124,8 @@ impl Net {
     pub fn movements(&self) -> Vec<(usize, usize, u8)> {
         let mut list = Vec::new();
         for p in 0..self.runs() {
-            for q in 0..self.runs() {
-                if self.ends(p).1.0 != self.ends(q).0.0 {
-                    continue; // not even the same node
-                }
+            let (_, (node, _)) = self.ends(p);
+            for (_, &q) in self.corners.range((node, 0)..=(node, 7)) {
                 if let Ok(level) = self.movement(p, q) {
                     list.push((p, q, level));
                 }
@@ -144,11 +148,12 @@ impl Net {
         let mut length: Vec<Option<u32>> = (0..self.runs())
             .map(|run| first(run).then(|| feet(run)))
             .collect();
-        let steps: Vec<(usize, usize, u32)> = movements
-            .iter()
-            .filter(|&&(p, q, level)| level <= tolerance && usable(p) && usable(q))
-            .map(|&(p, q, _)| (p, q, feet(q)))
-            .collect();
+        let mut steps: Vec<Vec<(usize, u32)>> = vec![Vec::new(); self.runs()];
+        for &(p, q, level) in movements {
+            if level <= tolerance && usable(p) && usable(q) {
+                steps[p].push((q, feet(q)));
+            }
+        }
         relax(&steps, &mut length);
         let mut nodes: Vec<Option<u32>> = vec![None; self.nodes()];
         for run in 0..self.runs() {
@@ -225,22 +230,22 @@ impl Net {
     }
 }
 
-/// Takes steps from run to run, with the feet each adds, until no run's length
-/// changes.
-fn relax(steps: &[(usize, usize, u32)], length: &mut [Option<u32>]) {
-    loop {
-        let mut changed = false;
-        for &(p, q, feet) in steps {
-            if let Some(before) = length[p] {
+/// Takes the steps from each run, with the feet that they add, and again those
+/// from the runs whose length changed, until none does.
+fn relax(steps: &[Vec<(usize, u32)>], length: &mut [Option<u32>]) {
+    let mut changed: BTreeSet<usize> = (0..length.len()).collect();
+    while !changed.is_empty() {
+        let mut again = BTreeSet::new();
+        for p in changed {
+            let Some(before) = length[p] else { continue };
+            for &(q, feet) in &steps[p] {
                 let through = before + feet;
                 if length[q].is_none_or(|now| through < now) {
                     length[q] = Some(through);
-                    changed = true;
+                    again.insert(q);
                 }
             }
         }
-        if !changed {
-            break;
-        }
+        changed = again;
     }
 }

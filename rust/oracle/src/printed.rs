@@ -1,6 +1,5 @@
 //! What programs must print.
 
-use crate::frame::MOST_NODES;
 use crate::{Net, Ways, read, refused_line};
 
 /// At most so many bytes of standard input are judged by `levels`, by
@@ -87,12 +86,14 @@ fn told(ways: &mut Ways, from: usize, to: usize, tolerance: Option<usize>) -> Re
     Ok(found.unwrap_or("none".into()))
 }
 
+/// The nodes that the pairs of `examples_routes` are spread over.
+const SPREAD: usize = 1_000;
+
 /// The pairs of nodes that `examples_routes` asks about: all of the first nine
-/// nodes, and 24 spread over the largest network.
+/// nodes, and 24 spread over the largest town.
 fn pairs() -> impl Iterator<Item = (usize, usize)> {
     let near = (0..81).map(|pair| (pair / 9, pair % 9));
-    let nodes = MOST_NODES as usize;
-    let spread = (1..25).map(move |k| (k * 37 % nodes, k * 91 % nodes));
+    let spread = (1..25).map(|k| (k * 37 % SPREAD, k * 91 % SPREAD));
     near.chain(spread)
 }
 

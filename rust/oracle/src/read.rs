@@ -1,8 +1,9 @@
 //! Read: a network text, line by line, into kept bytes; and the line that it
 //! refuses.
 
-use crate::frame::{HEAD, Head, SEGMENT, sum_is_zero};
+use crate::frame::{HEAD, Head, sum_is_zero};
 use crate::street::Street;
+use std::collections::BTreeSet;
 use std::ops::Range;
 
 /// The bytes kept, or number and line of the refusal.
@@ -14,23 +15,22 @@ pub fn read(text: &[u8], room: usize) -> Result<Vec<u8>, (u8, usize)> {
     let (_, first) = lines.next().ok_or((3, 1))?;
     let mut kept = sound_frame(first, 1, HEAD).map_err(|number| (number, 1))?;
     let head = Head::parse(&kept).ok_or((4, 1))?;
-    let segments = head.segments;
-    if room < HEAD + SEGMENT * segments {
+    let (segments, size) = (head.segments, head.segment_size());
+    if room < HEAD + size * segments {
         return Err((7, 1));
     }
-    let mut taken: Vec<(u32, u32)> = Vec::new();
+    let mut taken: BTreeSet<(u32, u32)> = BTreeSet::new();
     let mut last = 1;
     for (line, digits) in lines {
-        let frame = sound_frame(digits, 2, SEGMENT).map_err(|number| (number, line))?;
+        let frame = sound_frame(digits, 2, size).map_err(|number| (number, line))?;
         if line > segments + 1 {
             return Err((5, line));
         }
-        let street = Street::parse(&frame[1..SEGMENT - 1], head).ok_or((4, line))?;
+        let street = Street::parse(&frame[1..size - 1], head).ok_or((4, line))?;
         for end in street.ends {
-            if taken.contains(&end) {
+            if !taken.insert(end) {
                 return Err((6, line));
             }
-            taken.push(end);
         }
         kept.extend(frame);
         last = line;

@@ -11,10 +11,17 @@ const PARKING_SPEED: [u8; 4] = [1, 2, 3, 4];
 /// Measure 3 of form 2, by band.
 const LANE_SPEED: [u8; 4] = [1, 1, 3, 4];
 /// Controls at which no lanes are crossed, with their crossing level: by
-/// edition - 1, since Note 5 of document 02 adds one and changes another.
-const UNCROSSED: [&[(u32, u8)]; 2] = [&[(0, 1), (1, 1)], &[(0, 1), (1, 4), (5, 1)]];
+/// edition - 1, since Note 5 of document 02 adds one and changes another, and
+/// Note 6 keeps them so.
+const UNCROSSED: [&[(u32, u8)]; 3] = [
+    &[(0, 1), (1, 1)],
+    &[(0, 1), (1, 4), (5, 1)],
+    &[(0, 1), (1, 4), (5, 1)],
+];
 /// The greatest sum of marks, by edition - 1.
-const MOST_MARKS: [u32; 2] = [1 + 2 + 4 + 8, 1 + 2 + 4 + 8 + 16];
+const MOST_MARKS: [u32; 3] = [1 + 2 + 4 + 8, 1 + 2 + 4 + 8 + 16, 1 + 2 + 4 + 8 + 16];
+/// The greatest length in feet, by edition - 1.
+const MOST_FEET: [u32; 3] = [52_800, 52_800, 264_000];
 /// Crossing level by control - 2, band and lanes crossed (index 0 unused).
 const CROSSED: [[[u8; 13]; 4]; 3] = [
     [
@@ -151,7 +158,11 @@ impl Street {
         let mut t = Taker(bytes.iter());
         let a = (within(t.two()?, 0, nodes - 1)?, within(t.one()?, 0, 7)?);
         let b = (within(t.two()?, 0, nodes - 1)?, within(t.one()?, 0, 7)?);
-        let length = within(t.two()?, 1, 52_800)?;
+        let length = match edition {
+            3 => t.four()?,
+            _ => t.two()?,
+        };
+        within(length, 1, MOST_FEET[edition as usize - 1])?;
         let form = within(t.one()?, 0, 3)?;
         let ways = within(t.one()?, 1, 3)?;
         let (lanes, speed, reach, marks) = (t.one()?, t.one()?, t.one()?, t.one()?);

@@ -1,7 +1,7 @@
-//! The newer rules of Note 5 of document 02, by hand.
+//! The newer rules of Note 5 of document 02, by hand; edition 03 has them too.
 
 use oracle::{Net, levels, read};
-use towns::town::{Approach, NEWER, OLDER, Segment, Town, end};
+use towns::town::{Approach, COUNTY, NEWER, OLDER, Segment, Town, end};
 use towns::town::{BLOCKED, CENTRELINE, RESIDENTIAL, TURN_LANE};
 
 /// A street from node 0 to node 1.
@@ -54,7 +54,9 @@ fn streets() {
     ] {
         let street = street(ways, form, fields);
         assert_eq!(judge(OLDER, street), older, "{street:?}");
-        assert_eq!(judge(NEWER, street), Some(newer), "{street:?}");
+        for edition in [NEWER, COUNTY] {
+            assert_eq!(judge(edition, street), Some(newer), "{street:?}");
+        }
     }
 }
 
@@ -72,8 +74,9 @@ fn values_of_no_edition() {
         fault(5, 0, 5),
         fault(5, 1, 0),
     ] {
-        assert_eq!(judge(OLDER, street), None, "{street:?}");
-        assert_eq!(judge(NEWER, street), None, "{street:?}");
+        for edition in [OLDER, NEWER, COUNTY] {
+            assert_eq!(judge(edition, street), None, "{street:?}");
+        }
     }
     for edition in [0, 4, 255] {
         let text = Town::new(2).edition(edition).with(path).text();
@@ -96,9 +99,11 @@ fn signals() {
     for (improved, older, newer) in [(false, Some([1, 1]), [4, 1]), (true, None, [1, 1])] {
         let signal = Approach::signal(improved);
         assert_eq!(levels(OLDER, signal), older);
-        assert_eq!(levels(NEWER, signal), Some(newer));
         let [straight, _] = newer;
         let lane = signal.turning(2, 100, 15);
-        assert_eq!(levels(NEWER, lane), Some([straight.max(3), 3]));
+        for edition in [NEWER, COUNTY] {
+            assert_eq!(levels(edition, signal), Some(newer));
+            assert_eq!(levels(edition, lane), Some([straight.max(3), 3]));
+        }
     }
 }

@@ -29,7 +29,7 @@ fn town_vectors_writes_what_is_stored() {
     let program = env!("CARGO_BIN_EXE_town-vectors");
     let ended = Command::new(program).arg(&place).status();
     assert!(ended.expect("town-vectors").success());
-    for folder in ["levels", "routes"] {
+    for folder in ["levels", "routes", "counties"] {
         let (made, stored) = (
             files(&place.join(folder)),
             files(&Path::new(TESTS).join(folder)),

@@ -108,6 +108,20 @@ fn narrow_parking_lanes_shorten_a_route() {
     }
 }
 
+/// By hand: `there-and-back-03` goes out by 997 streets of 264,000 feet after the
+/// first, round a loop and back; `westerby-03` is `westerby` once more.
+#[test]
+fn edition_03_has_longer_streets_and_the_newer_rules() {
+    let text = |name: &str| fs::read(stored("tests/routes").join(name)).expect("a text");
+    let back = text("there-and-back-03.in");
+    let all = (1 + 997 + 1 + 997 + 1) * 264_000;
+    assert_eq!(route(&back, 0, 2, Some(3)), format!("found {all}\n"));
+    assert_eq!(route(&back, 0, 2, None), format!("found {all} 1\n"));
+    assert_eq!(route(&back, 0, 2, Some(4)), "found 528000\n");
+    assert_eq!(text("westerby-03.out"), text("westerby.out"));
+    assert_ne!(text("westerby-03.in"), text("westerby.in"));
+}
+
 /// By hand: `westerby` is of edition 02 and `westerby-01` the same town of
 /// edition 01. Within a tolerance one has another route, or none, and so has the
 /// other.

@@ -135,8 +135,8 @@ impl Command {
 
 /// The help on a command, or on all of them.
 pub fn help(command: Option<Command>) -> String {
-    const FILES: &str =
-        "FILE is a network text or a town's table (Markdown, as in towns/); - is standard input.\n";
+    const FILES: &str = "FILE is a network text or a town's table (Markdown, as in towns/); - is standard input.\n\
+         Its edition is 01, 02 or, for a county, 03, and it has at most 16 MiB.\n";
     const STATUS: &str = "Exit status: 0 answered, 1 none, 2 refused or wrong call.\n";
     let Some(command) = command else {
         let lines = Command::ALL.map(|command| (command.line(), command.about()));

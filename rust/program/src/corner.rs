@@ -1,13 +1,14 @@
 //! What decides a corner's level.
 //!
 //! The archive judges a movement as a whole. Which part of it decides is asked
-//! of the archive too, about the same network with one thing changed where the
+//! of the archive too, about the same segments with one thing changed where the
 //! first run arrives: no turn lane there, or nothing to cross, or the worst
 //! crossing of the tables.
 
 use crate::fault::Fault;
+use crate::part::Part;
+use crate::segment::Segment;
 use crate::segment::{AT_A, AT_B, CONTROL, CROSSED, CROSSED_SPEED, TURN, TURN_LENGTH, TURN_SPEED};
-use crate::segment::{HEAD_BYTES, SEGMENT_BYTES, Segment};
 use crate::table::{CONTROLS, TURNS};
 use crate::town::{Town, unforeseen};
 use splicereel::{Direction, Level, Run, judge_movement};
@@ -29,23 +30,21 @@ pub struct Corner {
 }
 
 impl Corner {
-    /// The corner between two runs of a route.
-    pub fn of(town: &Town, first: Run, second: Run) -> Result<Corner, Fault> {
-        let asked = Asked {
-            town,
-            first,
-            second,
-        };
+    /// The corner between two runs of a route, where `used` are the segments
+    /// that have an end at each node.
+    pub fn of(town: &Town, used: &[Vec<usize>], first: Run, second: Run) -> Result<Corner, Fault> {
+        let node = town.run_ends(first).1;
+        let asked = Asked::new(town, &used[node], first, second);
         let level = asked.judge(&[])?;
         let above = |changed: &[Change]| Ok(level > Level::One && asked.judge(changed)? == level);
         Ok(Corner {
-            node: town.run_ends(first).1,
+            node,
             level,
             right_hand_exit: asked.judge(&[NO_TURN_LANE, WORST_CROSSING].concat())? == Level::One,
             crossing: above(&NO_TURN_LANE)?,
             turn_lane: above(&NOTHING_CROSSED)?,
             surveyed: town.segment(first.segment()),
-            at: asked.at(),
+            at: asked.at,
         })
     }
 
@@ -117,32 +116,41 @@ const NOTHING_CROSSED: [Change; 3] = [(CONTROL, 0), (CROSSED, 0), (CROSSED_SPEED
 const WORST_CROSSING: [Change; 3] = [(CONTROL, 2), (CROSSED, 12), (CROSSED_SPEED, 85)];
 
 /// A movement that is asked about.
-struct Asked<'t> {
-    town: &'t Town,
-    first: Run,
-    second: Run,
+struct Asked {
+    /// The segments at its corner.
+    part: Part,
+    /// The first run's segment among them, and where it has the approach at
+    /// which that run arrives.
+    segment: usize,
+    at: usize,
+    /// The two runs, by the numbers of the part.
+    runs: [usize; 2],
 }
 
-impl Asked<'_> {
-    /// The approach where the first run arrives.
-    fn at(&self) -> usize {
-        match self.first.direction() {
-            Direction::AToB => AT_B,
-            Direction::BToA => AT_A,
+impl Asked {
+    fn new(town: &Town, used: &[usize], first: Run, second: Run) -> Asked {
+        // A run of a route rides one of the segments at its corner.
+        let place = |run: Run| used.binary_search(&run.segment()).unwrap_or(0);
+        let number = |run: Run| 2 * place(run) + usize::from(run.direction() == Direction::BToA);
+        Asked {
+            part: Part::of(town, used),
+            segment: place(first),
+            at: match first.direction() {
+                Direction::AToB => AT_B,
+                Direction::BToA => AT_A,
+            },
+            runs: [first, second].map(number),
         }
     }
 
     /// The movement's level with these changes of the approach.
     fn judge(&self, changes: &[Change]) -> Result<Level, Fault> {
-        let mut bytes = self.town.network.as_bytes().to_vec();
-        let mut segment = self.town.segment(self.first.segment());
+        let mut part = self.part.clone();
+        let segment = &mut part.segments[self.segment];
         for (field, number) in changes {
-            segment.set(self.at() + field, *number);
+            segment.set(self.at + field, *number);
         }
-        let from = HEAD_BYTES + SEGMENT_BYTES * self.first.segment();
-        if let Some(frame) = bytes.get_mut(from..from + SEGMENT_BYTES) {
-            frame.copy_from_slice(&segment.frame());
-        }
-        judge_movement(&bytes, self.first.number(), self.second.number()).map_err(unforeseen)
+        let [first, second] = self.runs;
+        judge_movement(&part.bytes(), first, second).map_err(unforeseen)
     }
 }

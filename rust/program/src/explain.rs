@@ -6,11 +6,12 @@
 //! refusal's own.
 
 use crate::cursor::Cursor;
+use crate::edition::{EDITIONS, Edition, listed};
 use crate::fault::Fault;
-use crate::segment::{self, EDITIONS, Field, Head, Segment};
+use crate::segment::{self, Field, Head, Segment};
 use crate::segment::{A_LEG, A_NODE, B_LEG, B_NODE};
-use crate::segment::{HEAD_BYTES, HEAD_KIND, SEGMENT_BYTES, SEGMENT_KIND};
-use splicereel::{MAX_NODES, MAX_SEGMENTS, Network, ReadRefusal, Refusal};
+use crate::segment::{HEAD_BYTES, HEAD_KIND, SEGMENT_KIND};
+use splicereel::{Network, ReadRefusal, Refusal};
 use std::ops::Range;
 
 /// The fault of a text that was refused.
@@ -37,6 +38,8 @@ struct Line<'t> {
     part: &'t [u8],
     /// The bytes of the text before it.
     start: usize,
+    /// The edition of the segment that is due; none where a head is.
+    segment: Option<Edition>,
 }
 
 impl<'t> Line<'t> {
@@ -44,11 +47,13 @@ impl<'t> Line<'t> {
         let part = Network::refused_line(text)?.part;
         // The part is lent by the text: its address tells its place.
         let start = part.as_ptr().addr().checked_sub(text.as_ptr().addr())?;
+        let head = head(text).filter(|_| number > 1);
         Some(Line {
             text,
             number,
             part,
             start,
+            segment: head.map(|head| head.edition),
         })
     }
 
@@ -64,16 +69,16 @@ impl<'t> Line<'t> {
 
     /// What a frame in its place must be: kind, bytes, and what it is called.
     fn due(&self) -> (u8, usize, &'static str) {
-        match self.number {
-            1 => (HEAD_KIND, HEAD_BYTES, "a head"),
-            _ => (SEGMENT_KIND, SEGMENT_BYTES, "a segment"),
+        match self.segment {
+            None => (HEAD_KIND, HEAD_BYTES, "a head"),
+            Some(edition) => (SEGMENT_KIND, edition.segment_bytes(), "a segment"),
         }
     }
 
     fn fields(&self) -> Vec<Field> {
-        match self.number {
-            1 => segment::head_fields(&frame(self.part)),
-            _ => segment::segment_fields(&frame(self.part)),
+        match self.segment {
+            None => segment::head_fields(&frame(self.part)),
+            Some(edition) => segment::segment_fields(edition, &frame(self.part)),
         }
     }
 
@@ -155,7 +160,7 @@ fn not_digits(line: &Line<'_>) -> Option<Found> {
         return at(column, bad_digit(digits[column], column + 1, last));
     }
     if !line.is_ended() {
-        return at(count, cut(count));
+        return at(count, cut(count, line.due().1));
     }
     let words = "digits: two make a byte, so one is missing or too many";
     match count % 2 {
@@ -195,9 +200,9 @@ fn bad_digit(byte: u8, column: usize, last: bool) -> String {
     format!("{what} at column {column} is no digit: digits are 0 to 9 and A to F")
 }
 
-/// The last line has no line feed.
-fn cut(digits: usize) -> String {
-    match digits == 2 * HEAD_BYTES || digits == 2 * SEGMENT_BYTES {
+/// The last line has no line feed, and a frame in its place has so many bytes.
+fn cut(digits: usize, bytes: usize) -> String {
+    match digits == 2 * bytes {
         true => "the line feed after the last line is missing".into(),
         false => format!("the file ends after {digits} digits of this line: it was cut"),
     }
@@ -219,9 +224,9 @@ fn wrong_frame(line: &Line<'_>) -> Option<Found> {
         let empty = line.number == 1 && !line.is_there();
         return empty.then(|| Found::anywhere("the file is empty: a head is due"));
     };
-    let (kind, bytes, what) = line.due();
+    let (kind, _, what) = line.due();
     if first == kind {
-        return Some(wrong_length(frame.len(), bytes, what));
+        return Some(wrong_length(line, frame.len()));
     }
     let words = match (line.number, first) {
         (1, SEGMENT_KIND) => "this is a segment, and the first line must be a head".into(),
@@ -232,11 +237,27 @@ fn wrong_frame(line: &Line<'_>) -> Option<Found> {
 }
 
 /// Digits that are too many can be seen; where some are missing cannot.
-fn wrong_length(length: usize, bytes: usize, what: &str) -> Found {
-    let words = format!("the line has {length} bytes, and {what} has {bytes}: digits are");
+fn wrong_length(line: &Line<'_>, length: usize) -> Found {
+    let (_, bytes, what) = line.due();
+    let (of, other) = match line.segment {
+        None => Default::default(),
+        Some(edition) => (format!(" of edition {edition}"), as_long(length)),
+    };
+    let words = format!("the line has {length} bytes, and {what}{of} has {bytes}: digits are");
     match length < bytes {
-        true => Found::anywhere(words + " missing"),
-        false => Found::at(2 * bytes..2 * length, words + " too many"),
+        true => Found::anywhere(format!("{words} missing{other}")),
+        false => Found::at(2 * bytes..2 * length, format!("{words} too many{other}")),
+    }
+}
+
+/// `; one of edition 01 or 02 has 30`: the editions whose segments are so long;
+/// nothing where there are none.
+fn as_long(length: usize) -> String {
+    let mut editions = EDITIONS.to_vec();
+    editions.retain(|edition| edition.segment_bytes() == length);
+    match editions.is_empty() {
+        true => String::new(),
+        false => format!("; one of edition {} has {length}", listed(&editions, "or")),
     }
 }
 
@@ -244,43 +265,47 @@ fn head_field(line: &Line<'_>) -> Option<Found> {
     let [_, edition, nodes, segments, _] = &line.fields()[..] else {
         return None;
     };
-    if !EDITIONS.contains(&edition.number) {
-        let known = EDITIONS.map(|known| format!("{known:02X}")).join(" and ");
+    let Some(known) = Edition::numbered(edition.number) else {
+        let known = listed(&EDITIONS, "and");
         let words = format!("edition {:02X} is not known: {known} are", edition.number);
         return Some(Found::at(edition.digits.clone(), words));
-    }
+    };
     let fields = [nodes, segments];
-    let (which, words) = counts(fields.map(|field| field.number as usize))?;
+    let (which, words) = counts(known, fields.map(|field| field.number))?;
     Some(Found::at(fields[which].digits.clone(), words))
 }
 
 /// What is wrong with the counts of nodes and of segments, in a head or in
-/// tables, and which of the two it is.
-pub fn counts([nodes, segments]: [usize; 2]) -> Option<(usize, String)> {
-    if nodes == 0 || nodes > MAX_NODES {
-        return Some((0, format!("{nodes} nodes: a town has 1 to {MAX_NODES}")));
-    }
-    (segments > MAX_SEGMENTS).then(|| {
-        let words = format!("{segments} segments: a town has at most {MAX_SEGMENTS}");
-        (1, words)
-    })
+/// tables of an edition, and which of the two it is.
+pub fn counts(edition: Edition, counts: [u32; 2]) -> Option<(usize, String)> {
+    let range = |edition: Edition, which| match which {
+        0 => 1..=edition.nodes,
+        _ => 0..=edition.segments,
+    };
+    let holds = |edition: Edition, which| range(edition, which).contains(&counts[which]);
+    let which = (0..2).find(|which| !holds(edition, *which))?;
+    let later = edition.later().find(|later| holds(*later, which));
+    let has = |edition| {
+        let span = segment::span(&range(edition, which));
+        format!("edition {edition} has {span}")
+    };
+    let has: Vec<String> = [edition].into_iter().chain(later).map(has).collect();
+    let (count, name) = (counts[which], ["nodes", "segments"][which]);
+    Some((which, format!("{count} {name}: {}", has.join("; "))))
 }
 
 fn head(text: &[u8]) -> Option<Head> {
-    Some(Head::decode(&frame(lines(text).next()?)))
+    Head::decode(&frame(lines(text).next()?))
 }
 
 fn segment_field(line: &Line<'_>) -> Option<Found> {
     let head = head(line.text)?;
-    let segment = Segment::decode(&frame(line.part));
+    let segment = Segment::decode(head.edition, &frame(line.part));
     let rule = segment::broken(&segment, head)?;
-    let digits = segment::digits(rule.field..=rule.field);
+    let digits = segment::digits(head.edition, rule.field..=rule.field);
     let (first, last) = (digits.start + 1, digits.end);
     let words = rule.words(segment.get(rule.field));
     let later = segment::later(&segment, head, rule.field);
-    let later = later.map_or_else(String::new, |(edition, range)| {
-        format!("; edition {edition:02X} has {}", segment::span(&range))
-    });
     let words = format!("{words} (digits {first} to {last}){later}");
     Some(Found::at(digits, words))
 }
@@ -298,9 +323,10 @@ fn wrong_count(line: &Line<'_>) -> Option<Found> {
 }
 
 fn leg_taken(line: &Line<'_>) -> Option<Found> {
-    let before = line.number.checked_sub(2)?;
+    let (before, edition) = (line.number.checked_sub(2)?, line.segment?);
     let frames = lines(line.text).skip(1).take(before).chain([line.part]);
-    let segments: Vec<Segment> = frames.map(|line| Segment::decode(&frame(line))).collect();
+    let decode = |line| Segment::decode(edition, &frame(line));
+    let segments: Vec<Segment> = frames.map(decode).collect();
     let taken = segment::taken(&segments)?;
     let by = format!("segment {} (line {})", taken.by, taken.by + 2);
     let node = format!("node {}", taken.node);
@@ -309,7 +335,7 @@ fn leg_taken(line: &Line<'_>) -> Option<Found> {
         'A' => A_NODE..=A_LEG,
         _ => B_NODE..=B_LEG,
     };
-    Some(Found::at(segment::digits(fields), words))
+    Some(Found::at(segment::digits(edition, fields), words))
 }
 
 #[cfg(test)]
@@ -336,13 +362,13 @@ mod tests {
     }
 
     /// A text of an edition, with two nodes and these segments.
-    fn text_of(edition: u32, segments: &[Segment]) -> Vec<u8> {
+    fn text_of(edition: Edition, segments: &[Segment]) -> Vec<u8> {
         let head = Head {
             edition,
             nodes: 2,
             segments: segments.len() as u32,
         };
-        let lines = segments.iter().map(|segment| line(&segment.frame()));
+        let lines = segments.iter().map(|segment| line(&segment.frame(edition)));
         [line(&head.frame())]
             .into_iter()
             .chain(lines)
@@ -351,7 +377,7 @@ mod tests {
     }
 
     fn text(segments: &[Segment]) -> Vec<u8> {
-        text_of(1, segments)
+        text_of(EDITIONS[0], segments)
     }
 
     /// A street in mixed traffic with a crossing and a turn lane at each end.
@@ -445,7 +471,7 @@ mod tests {
         }
     }
 
-    fn is_marked(edition: u32, field: usize) {
+    fn is_marked(edition: Edition, field: usize) {
         let mut wrong = street();
         wrong.set(field, u32::MAX);
         let fault = refused(4, &text_of(edition, &[wrong]));
@@ -453,18 +479,19 @@ mod tests {
         assert!(fault.words.starts_with(&format!("{name} is ")), "{name}");
         let mark = mark(&fault).expect(name);
         let cursor = fault.cursor.expect("a line");
-        let digits = (0..58).filter(|place| cursor.part[*place] == b'F');
+        let whole = 2 * edition.segment_bytes();
+        let digits = (0..whole - 2).filter(|place| cursor.part[*place] == b'F');
         assert!(mark.clone().eq(digits), "{name}");
         let fields = cursor.fields.expect("fields");
         let marked = fields.iter().filter(|field| field.digits == mark);
         assert!(marked.map(|field| field.name).eq([name]));
         assert_eq!((fields[0].name, fields[24].name), ("kind", "check"));
-        assert_eq!((fields[24].digits.end, fields.len()), (60, 25));
+        assert_eq!((fields[24].digits.end, fields.len()), (whole, 25));
     }
 
     /// The street with another number in a field, under each edition: either
     /// Read takes it, or the words end so.
-    fn ends(field: usize, number: u32, due: [&str; 2]) {
+    fn ends(field: usize, number: u32, due: [&str; 3]) {
         let mut street = street();
         street.set(field, number);
         if field == AT_B + CONTROL {
@@ -482,23 +509,122 @@ mod tests {
 
     #[test]
     fn what_a_later_edition_has_is_said() {
-        let marks = |number: u32| {
-            let words = format!("marks is {number} and must be 0 to 15 in mixed traffic");
-            words + " (digits 29 to 30); edition 02 has 0 to 31"
+        let marks = |number: u32, most: u32, digits: &str| {
+            format!("marks is {number} and must be 0 to {most} in mixed traffic (digits {digits})")
         };
-        ends(MARKS, 15, ["", ""]);
-        ends(MARKS, 16, [&marks(16), ""]);
-        ends(MARKS, 31, [&marks(31), ""]);
-        let beyond = |most: u32| {
-            format!("marks is 32 and must be 0 to {most} in mixed traffic (digits 29 to 30)")
+        let later = |number| marks(number, 15, "29 to 30") + "; edition 02 has 0 to 31";
+        ends(MARKS, 15, ["", "", ""]);
+        ends(MARKS, 16, [&later(16), "", ""]);
+        ends(MARKS, 31, [&later(31), "", ""]);
+        let beyond = [(15, "29 to 30"), (31, "29 to 30"), (31, "33 to 34")];
+        let beyond = beyond.map(|(most, digits)| marks(32, most, digits));
+        ends(MARKS, 32, [&beyond[0], &beyond[1], &beyond[2]]);
+        let control = |number: u32, most: u32, digits: &str| {
+            format!("control at B is {number} and must be 0 to {most} (digits {digits})")
         };
-        ends(MARKS, 32, [&beyond(15), &beyond(31)]);
-        let control = |number: u32, most: u32| {
-            format!("control at B is {number} and must be 0 to {most} (digits 31 to 32)")
+        let later = control(5, 4, "31 to 32") + "; edition 02 has 0 to 5";
+        ends(AT_B + CONTROL, 5, [&later, "", ""]);
+        let beyond = [(4, "31 to 32"), (5, "31 to 32"), (5, "35 to 36")];
+        let beyond = beyond.map(|(most, digits)| control(6, most, digits));
+        ends(AT_B + CONTROL, 6, [&beyond[0], &beyond[1], &beyond[2]]);
+    }
+
+    /// Lengths that the 2 bytes of editions 01 and 02 do not hold stand in 03
+    /// alone.
+    #[test]
+    fn lengths_are_said_by_their_edition() {
+        let length = |number: u32| {
+            let words = format!("length is {number} and must be 1 to 52800 (digits 15 to 18)");
+            words + "; edition 03 has 1 to 264000"
         };
-        let later = control(5, 4) + "; edition 02 has 0 to 5";
-        ends(AT_B + CONTROL, 5, [&later, ""]);
-        ends(AT_B + CONTROL, 6, [&control(6, 4), &control(6, 5)]);
+        ends(LENGTH, 52_800, ["", "", ""]);
+        ends(LENGTH, 52_801, [&length(52_801), &length(52_801), ""]);
+        ends(LENGTH, 65_535, [&length(65_535), &length(65_535), ""]);
+        let none = "length is 0 and must be 1 to 52800 (digits 15 to 18)";
+        let wide =
+            |number: u32| format!("length is {number} and must be 1 to 264000 (digits 15 to 22)");
+        ends(LENGTH, 0, [none, none, &wide(0)]);
+        for (number, due) in [
+            (65_536, false),
+            (264_000, false),
+            (264_001, true),
+            (1 << 24, true),
+        ] {
+            let mut street = street();
+            street.set(LENGTH, number);
+            let text = text_of(EDITIONS[2], &[street]);
+            match due {
+                true => assert_eq!(refused(4, &text).words, wide(number)),
+                false => assert!(Network::read(&text).is_ok(), "{number}"),
+            }
+        }
+    }
+
+    /// A frame of the other length, and one of no edition's.
+    #[test]
+    fn frames_of_another_edition_are_said() {
+        let said = |own: Edition, other: &[u8]| {
+            let text = [text_of(own, &[]), line(other).into()].concat();
+            let fault = refused(3, &text);
+            (fault.words.clone(), mark(&fault))
+        };
+        let [older, _, counties] = EDITIONS;
+        let frames = [older, counties].map(|edition| street().frame(edition));
+        let due = "the line has 30 bytes, and a segment of edition 03 has 32: digits are missing; one of edition 01 or 02 has 30";
+        assert_eq!(said(counties, &frames[0]), (due.into(), None));
+        for edition in &EDITIONS[..2] {
+            let due = format!(
+                "the line has 32 bytes, and a segment of edition {edition} has 30: digits are too many; one of edition 03 has 32"
+            );
+            assert_eq!(said(*edition, &frames[1]), (due, Some(60..64)));
+        }
+        let due = "the line has 3 bytes, and a segment of edition 03 has 32: digits are missing";
+        assert_eq!(said(counties, &[2, 0, 0xFE]), (due.into(), None));
+    }
+
+    /// A head of an edition with these counts of nodes and segments.
+    fn counted(edition: Edition, nodes: u32, segments: u32) -> Vec<u8> {
+        let head = Head {
+            edition,
+            nodes,
+            segments,
+        };
+        line(&head.frame()).into()
+    }
+
+    #[test]
+    fn counts_are_said_by_their_edition() {
+        let [older, _, counties] = EDITIONS;
+        for (edition, nodes, segments, due) in [
+            (older, 0, 0, "0 nodes: edition 01 has 1 to 1000"),
+            (
+                older,
+                1_001,
+                9_999,
+                "1001 nodes: edition 01 has 1 to 1000; edition 03 has 1 to 8000",
+            ),
+            (older, 8_001, 0, "8001 nodes: edition 01 has 1 to 1000"),
+            (
+                older,
+                1,
+                8_000,
+                "8000 segments: edition 01 has 0 to 1000; edition 03 has 0 to 8000",
+            ),
+            (counties, 0, 0, "0 nodes: edition 03 has 1 to 8000"),
+            (counties, 8_001, 0, "8001 nodes: edition 03 has 1 to 8000"),
+            (
+                counties,
+                8_000,
+                65_535,
+                "65535 segments: edition 03 has 0 to 8000",
+            ),
+        ] {
+            let fault = refused(4, &counted(edition, nodes, segments));
+            assert_eq!(fault.words, due);
+            let count = if due.contains("nodes") { 4..8 } else { 8..12 };
+            assert_eq!(mark(&fault), Some(count));
+        }
+        assert!(Network::read(&counted(counties, 8_000, 0)).is_ok());
     }
 
     /// A street of a form, with a control at B.
@@ -516,7 +642,7 @@ mod tests {
     }
 
     /// Whether Read refuses the segment with 4, and so does a rule.
-    fn is_wrong(edition: u32, segment: &Segment) -> bool {
+    fn is_wrong(edition: Edition, segment: &Segment) -> bool {
         let head = Head {
             edition,
             nodes: 2,
@@ -530,10 +656,12 @@ mod tests {
         wrong
     }
 
-    /// Whatever number stands in a field, under either edition.
+    /// Whatever number stands in a field, under each edition.
     #[test]
     fn rules_are_reads() {
         let numbers = (0..=37).chain(59..=61).chain(84..=86).chain([128, 255]);
+        let lengths = [52_800, 52_801, 65_535, 65_536, 264_000, 264_001, u32::MAX];
+        let numbers = numbers.chain(lengths);
         let numbers: Vec<u32> = numbers.collect();
         let met = (0..4).flat_map(|form| (0..6).map(move |control| street_of(form, control)));
         let mut wrong = [0; 2];
@@ -557,7 +685,7 @@ mod tests {
                 street.set(AT_A + field, number);
             }
             street.set(AT_A + field, 9);
-            let words = refused(4, &text_of(2, &[street])).words;
+            let words = refused(4, &text_of(EDITIONS[1], &[street])).words;
             let due = format!("{name} crossed at A is 9 and must be 0 at an improved signal");
             assert!(words.starts_with(&due), "{words}");
         }
@@ -573,7 +701,7 @@ mod tests {
         let mut other = street();
         other.set(A_LEG, 3);
         assert_eq!(mark(&refused(6, &text(&[street(), other]))), Some(8..14));
-        let more = [text(&[]), line(&street().frame()).into()].concat();
+        let more = [text(&[]), line(&street().frame(EDITIONS[0])).into()].concat();
         assert_eq!(mark(&refused(5, &more)), None);
     }
 

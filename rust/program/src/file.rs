@@ -7,7 +7,7 @@ use std::fs::File;
 use std::io::{self, Read};
 use std::path::Path;
 
-/// The most bytes of a file: the largest town's text has 61,015, and a
+/// The most bytes of a file: the largest county's text has 520,015, and a
 /// description may say more than its tables.
 const MOST: u64 = 16 << 20;
 

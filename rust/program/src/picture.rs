@@ -2,6 +2,7 @@
 //!
 //! A picture knows nothing of files and calls: it shows a [`scene::Scene`].
 
+mod cells;
 pub mod dot;
 mod geometry;
 pub mod ink;

@@ -179,10 +179,11 @@ impl<'t> Asked<'t> {
     fn steps(&self, route: &Route) -> Result<Vec<Step>, Fault> {
         let runs = route.runs();
         let before = [None].into_iter().chain(runs.iter().copied().map(Some));
+        let corners = self.town.corners();
         let mut steps = Vec::with_capacity(runs.len());
         for (number, (before, &run)) in (1..).zip(before.zip(runs)) {
             let before = before
-                .map(|before| Corner::of(self.town, before, run))
+                .map(|before| Corner::of(self.town, &corners, before, run))
                 .transpose()?;
             steps.push(Step {
                 number,

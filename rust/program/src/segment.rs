@@ -5,10 +5,11 @@
 //! calls; this reads the fields that a page shows, writes those of a table as a
 //! frame, and finds the words for a frame that was refused.
 
+use crate::edition::Edition;
 use std::ops::{Range, RangeInclusive};
 
 /// Name and width in bytes of each field, in the order of the frame, between
-/// its kind and its check.
+/// its kind and its check; a length may be wider, see [`layout`].
 const LAYOUT: [(&str, usize); 23] = [
     ("A node", 2),
     ("A leg", 1),
@@ -61,14 +62,17 @@ pub const TURN: usize = 3;
 pub const TURN_LENGTH: usize = 4;
 pub const TURN_SPEED: usize = 5;
 
-/// The bytes of a head, and of a segment's frame.
+/// The bytes of a head.
 pub const HEAD_BYTES: usize = 7;
-pub const SEGMENT_BYTES: usize = 30;
 pub const HEAD_KIND: u8 = 1;
 pub const SEGMENT_KIND: u8 = 2;
 
-/// The editions of the format that are known.
-pub const EDITIONS: [u32; 2] = [1, 2];
+/// The layout under an edition.
+fn layout(edition: Edition) -> [(&'static str, usize); LAYOUT.len()] {
+    let mut layout = LAYOUT;
+    layout[LENGTH].1 = edition.length_bytes;
+    layout
+}
 
 /// A field's name.
 pub fn name(field: usize) -> &'static str {
@@ -89,9 +93,10 @@ pub fn head_fields(frame: &[u8]) -> Vec<Field> {
     fields(&HEAD_LAYOUT, frame)
 }
 
-/// The fields of a segment, kind and check too; those past its end are 0.
-pub fn segment_fields(frame: &[u8]) -> Vec<Field> {
-    fields(&LAYOUT, frame)
+/// The fields of a segment of an edition, kind and check too; those past its end
+/// are 0.
+pub fn segment_fields(edition: Edition, frame: &[u8]) -> Vec<Field> {
+    fields(&layout(edition), frame)
 }
 
 fn fields(layout: &[(&'static str, usize)], frame: &[u8]) -> Vec<Field> {
@@ -114,38 +119,37 @@ fn fields(layout: &[(&'static str, usize)], frame: &[u8]) -> Vec<Field> {
 
 /// The digits of fields of a segment that stand together, counted from 0 at
 /// the line's first.
-pub fn digits(together: RangeInclusive<usize>) -> Range<usize> {
-    let fields = segment_fields(&[]);
+pub fn digits(edition: Edition, together: RangeInclusive<usize>) -> Range<usize> {
+    let fields = segment_fields(edition, &[]);
     // The kind stands before them.
     fields[1 + together.start()].digits.start..fields[1 + together.end()].digits.end
 }
 
-/// A head as its fields' numbers.
+/// A head of an edition that is known.
 #[derive(Clone, Copy, Debug, PartialEq, Eq)]
 pub struct Head {
-    pub edition: u32,
+    pub edition: Edition,
     pub nodes: u32,
     pub segments: u32,
 }
 
 impl Head {
-    /// The fields of a frame; those past its end are 0.
-    pub fn decode(frame: &[u8]) -> Head {
-        let fields = head_fields(frame);
-        // The kind stands before them.
-        let number = |field: usize| fields.get(1 + field).map_or(0, |field| field.number);
-        let [edition, nodes, segments] = [0, 1, 2].map(number);
-        Head {
-            edition,
-            nodes,
-            segments,
-        }
+    /// The fields of a frame; none where its edition is not known.
+    pub fn decode(frame: &[u8]) -> Option<Head> {
+        let [_, edition, nodes, segments, _] = &head_fields(frame)[..] else {
+            return None;
+        };
+        Some(Head {
+            edition: Edition::numbered(edition.number)?,
+            nodes: nodes.number,
+            segments: segments.number,
+        })
     }
 
     /// The frame with these fields, its check computed; numbers that are too
     /// large as in [`Segment::frame`].
     pub fn frame(&self) -> Vec<u8> {
-        let numbers = [self.edition, self.nodes, self.segments];
+        let numbers = [self.edition.number, self.nodes, self.segments];
         frame(HEAD_KIND, &HEAD_LAYOUT, &numbers)
     }
 }
@@ -155,22 +159,22 @@ impl Head {
 pub struct Segment([u32; LAYOUT.len()]);
 
 impl Segment {
-    /// The fields of a frame; those past its end are 0.
-    pub fn decode(frame: &[u8]) -> Segment {
+    /// The fields of a frame of an edition; those past its end are 0.
+    pub fn decode(edition: Edition, frame: &[u8]) -> Segment {
         let mut segment = Segment::default();
         // The kind stands before them.
-        let fields = segment_fields(frame).into_iter().skip(1);
+        let fields = segment_fields(edition, frame).into_iter().skip(1);
         for (number, field) in segment.0.iter_mut().zip(fields) {
             *number = field.number;
         }
         segment
     }
 
-    /// The frame with these fields, its check computed. A number that its
-    /// bytes do not hold becomes the greatest that they do, which no field may
-    /// have.
-    pub fn frame(&self) -> Vec<u8> {
-        frame(SEGMENT_KIND, &LAYOUT, &self.0)
+    /// The frame of an edition with these fields, its check computed. A number
+    /// that its bytes do not hold becomes the greatest that they do, which no
+    /// field may have.
+    pub fn frame(&self, edition: Edition) -> Vec<u8> {
+        frame(SEGMENT_KIND, &layout(edition), &self.0)
     }
 
     /// The number in a field.
@@ -222,59 +226,43 @@ pub fn broken(segment: &Segment, head: Head) -> Option<Rule> {
     rules.find(|rule| !rule.is_kept(segment))
 }
 
-/// The first later edition in which a field may have the number that breaks
-/// its rule, with what may stand there.
-pub fn later(segment: &Segment, head: Head, field: usize) -> Option<(u32, RangeInclusive<u32>)> {
-    let editions = EDITIONS.into_iter().filter(|later| *later > head.edition);
-    let mut kept = editions.filter_map(|edition| {
+/// `; edition 02 has 0 to 31`: the first later edition in which a field may have
+/// the number that breaks its rule, with what may stand there; nothing where
+/// there is none.
+pub fn later(segment: &Segment, head: Head, field: usize) -> String {
+    let mut kept = head.edition.later().filter_map(|edition| {
         let rules = rules(segment, Head { edition, ..head });
         let rule = rules.into_iter().find(|rule| rule.field == field)?;
-        rule.is_kept(segment).then_some((edition, rule.range))
+        let words = format!("; edition {edition} has {}", span(&rule.range));
+        rule.is_kept(segment).then_some(words)
     });
-    kept.next()
+    kept.next().unwrap_or_default()
 }
 
 /// The rules of every field, in their order.
 fn rules(segment: &Segment, head: Head) -> Vec<Rule> {
-    let greatest = Greatest::of(head.edition);
+    let Edition { marks, control, .. } = head.edition;
     let rules = [
-        ends(head.nodes),
-        street(segment.get(FORM), greatest.marks),
-        approach(segment, AT_B, greatest.control),
-        approach(segment, AT_A, greatest.control),
+        ends(head.nodes, head.edition.feet),
+        street(segment.get(FORM), marks),
+        approach(segment, AT_B, control),
+        approach(segment, AT_A, control),
     ];
     rules.into_iter().flatten().collect()
-}
-
-/// The greatest numbers that an edition gives a meaning.
-struct Greatest {
-    /// The sum of all marks.
-    marks: u32,
-    control: u32,
-}
-
-impl Greatest {
-    fn of(edition: u32) -> Greatest {
-        let (marks, control) = match edition {
-            1 => (15, 4),
-            _ => (31, 5),
-        };
-        Greatest { marks, control }
-    }
 }
 
 fn rule(field: usize, range: RangeInclusive<u32>, when: &'static str) -> Rule {
     Rule { field, range, when }
 }
 
-fn ends(nodes: u32) -> Vec<Rule> {
+fn ends(nodes: u32, longest: u32) -> Vec<Rule> {
     let node = 0..=nodes.saturating_sub(1);
     vec![
         rule(A_NODE, node.clone(), ""),
         rule(A_LEG, 0..=7, ""),
         rule(B_NODE, node, ""),
         rule(B_LEG, 0..=7, ""),
-        rule(LENGTH, 1..=52_800, ""),
+        rule(LENGTH, 1..=longest, ""),
         rule(FORM, 0..=3, ""),
         rule(WAYS, 1..=3, ""),
     ]

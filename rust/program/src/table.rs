@@ -1,10 +1,11 @@
 //! A town's tables as a network text, with the names that they give.
 
+use crate::edition::{EDITIONS, Edition, listed};
 use crate::explain;
 use crate::fault::{Fault, quoted};
 use crate::markdown::{self, Row, Table};
 use crate::near::meant;
-use crate::segment::{self, EDITIONS, Head, Segment};
+use crate::segment::{self, Head, Segment};
 use crate::segment::{
     A_LEG, A_NODE, B_LEG, B_NODE, FORM, LANES, LENGTH, MARKS, REACH, SPEED, WAYS,
 };
@@ -144,27 +145,29 @@ fn is_near(table: &Table<'_>, first: &str) -> bool {
 
 /// The town's edition: 01 where no table names one. A table that seems to, and
 /// would be passed over, is a fault: no edition is lost in silence.
-fn edition(tables: &[Table<'_>]) -> Result<u32, Fault> {
+fn edition(tables: &[Table<'_>]) -> Result<Edition, Fault> {
     let Some(table) = only_table(tables, EDITION, "the edition stands in the one")? else {
         let could = |table: &&Table<'_>| table.heading.cells.len() == 1 && is_near(table, EDITION);
         return match tables.iter().find(could) {
-            Some(table) => heading(table, &[EDITION]).map(|()| 1),
-            None => Ok(1),
+            Some(table) => heading(table, &[EDITION]).map(|()| EDITIONS[0]),
+            None => Ok(EDITIONS[0]),
         };
     };
     heading(table, &[EDITION])?;
-    let known = EDITIONS.map(|known| format!("{known:02}"));
+    let known = listed(&EDITIONS, "or");
     match &table.rows()?[..] {
         [] => {
-            let words = format!("a row is due in this table: {}", known.join(" or "));
+            let words = format!("a row is due in this table: {known}");
             Err(Fault::at(table.heading.line, words))
         }
         [row] => {
-            let number = whole(&row.cells[0]).filter(|number| EDITIONS.contains(number));
-            number.ok_or_else(|| {
-                let (cell, known) = (quoted(&row.cells[0]), known.join(", "));
-                let words = format!("{EDITION} is {cell}, and must be one of: {known}");
-                Fault::at(row.line, words)
+            let edition = whole(&row.cells[0]).and_then(Edition::numbered);
+            edition.ok_or_else(|| {
+                let cell = quoted(&row.cells[0]);
+                Fault::at(
+                    row.line,
+                    format!("{EDITION} is {cell}, and must be {known}"),
+                )
             })
         }
         [_, second, ..] => Err(Fault::at(second.line, "a second edition: a town has one")),
@@ -231,11 +234,11 @@ fn whole(cell: &str) -> Option<u32> {
 }
 
 /// The fields of a segment's row.
-fn street(row: &Row<'_>, edition: u32) -> Result<Segment, Fault> {
+fn street(row: &Row<'_>, edition: Edition) -> Result<Segment, Fault> {
     fields(&row.cells, edition).map_err(|words| Fault::at(row.line, words))
 }
 
-fn fields(cells: &[Cow<'_, str>], edition: u32) -> Result<Segment, String> {
+fn fields(cells: &[Cow<'_, str>], edition: Edition) -> Result<Segment, String> {
     let mut segment = Segment::default();
     let due = [
         (A_NODE, 2),
@@ -289,19 +292,20 @@ fn word(what: &str, cell: &str, words: &[&str]) -> Result<u32, String> {
 }
 
 /// The same of words of which edition 01 lacks the last.
-fn word_of(edition: u32, what: &str, cell: &str, words: &[&str]) -> Result<u32, String> {
+fn word_of(edition: Edition, what: &str, cell: &str, words: &[&str]) -> Result<u32, String> {
+    let oldest = edition == EDITIONS[0];
     match words.split_last() {
-        Some((last, _)) if edition == 1 && *last == cell => Err(format!(
+        Some((last, _)) if oldest && *last == cell => Err(format!(
             "{what} is {}, which needs edition 02: a table | {EDITION} | with the row | 02 | is due",
             quoted(cell)
         )),
-        Some((_, older)) if edition == 1 => word(what, cell, older),
+        Some((_, older)) if oldest => word(what, cell, older),
         _ => word(what, cell, words),
     }
 }
 
 /// A sum of marks, named with commas between; `-` is none.
-fn marks(cell: &str, edition: u32) -> Result<u32, String> {
+fn marks(cell: &str, edition: Edition) -> Result<u32, String> {
     if cell == "-" {
         return Ok(0);
     }
@@ -318,7 +322,7 @@ fn crossing(
     at: usize,
     what: &str,
     words: &str,
-    edition: u32,
+    edition: Edition,
 ) -> Result<(), String> {
     let (name, [lanes, speed]) = measured(what, words, ["lanes", "mph"])?;
     segment.set(at + CONTROL, word_of(edition, what, name, &CONTROLS)?);
@@ -377,7 +381,7 @@ fn line(frame: &[u8]) -> Vec<u8> {
 
 /// What a text is made of.
 struct Made<'t> {
-    edition: u32,
+    edition: Edition,
     /// The lines of the headings of nodes and of segments.
     headings: [usize; 2],
     places: &'t [Row<'t>],
@@ -401,7 +405,7 @@ impl Made<'_> {
     fn text(&self) -> Vec<u8> {
         let mut text = line(&self.head().frame());
         for street in self.streets {
-            text.extend(line(&street.frame()));
+            text.extend(line(&street.frame(self.edition)));
         }
         text
     }
@@ -410,7 +414,12 @@ impl Made<'_> {
     fn fault(&self, refused: ReadRefusal) -> Fault {
         let segment = (refused.line as usize).checked_sub(2);
         let row = segment.and_then(|segment| self.rows.get(segment));
-        let count = explain::counts([self.places.len(), self.streets.len()]);
+        let Head {
+            edition,
+            nodes,
+            segments,
+        } = self.head();
+        let count = explain::counts(edition, [nodes, segments]);
         let heading = self.headings[count.as_ref().map_or(1, |(which, _)| *which)];
         let words = match segment {
             Some(segment) => self.segment_words(segment, refused.refusal),
@@ -436,6 +445,7 @@ impl Made<'_> {
             return Some(taken.words(taken.by == number, &by, &node));
         }
         let rule = segment::broken(segment, self.head())?;
-        Some(rule.words(segment.get(rule.field)))
+        let later = segment::later(segment, self.head(), rule.field);
+        Some(rule.words(segment.get(rule.field)) + &later)
     }
 }

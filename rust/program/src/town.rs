@@ -1,19 +1,22 @@
 //! A town: the network that Read kept, and the names that a table gives.
 
+use crate::edition::Edition;
 use crate::explain;
 use crate::fault::{Fault, printable, quoted};
 use crate::file;
 use crate::json::Json;
 use crate::near::meant;
-use crate::segment::{A_NODE, B_NODE, HEAD_BYTES, SEGMENT_BYTES, Segment, WAYS};
+use crate::part::Part;
+use crate::segment::{A_NODE, B_NODE, HEAD_BYTES, Segment, WAYS};
 use crate::table;
-use splicereel::{Direction, Judged, Network, Refusal, Run};
+use splicereel::{Direction, Judged, Network, Refusal, Run, judge_segment};
 use std::ffi::OsStr;
 
 /// A town.
 #[derive(Debug)]
 pub struct Town {
     pub network: Network,
+    pub edition: Edition,
     /// The town's name, where a table has one.
     pub name: Option<String>,
     /// The nodes' names; no names for a network text.
@@ -32,6 +35,7 @@ impl Town {
             let network =
                 Network::read(&bytes).map_err(|refused| explain::fault(&bytes, refused))?;
             return Ok(Town {
+                edition: edition(&network)?,
                 network,
                 name: None,
                 places: vec![],
@@ -41,6 +45,7 @@ impl Town {
         }
         let described = table::read(&bytes)?;
         Ok(Town {
+            edition: edition(&described.network)?,
             network: described.network,
             name: described.name.map(|name| shown(&name)),
             places: described.places.iter().map(|name| shown(name)).collect(),
@@ -99,14 +104,30 @@ impl Town {
 
     /// The surveyed fields of a segment.
     pub fn segment(&self, segment: usize) -> Segment {
-        let at = HEAD_BYTES + segment * SEGMENT_BYTES;
-        let frame = self.network.as_bytes().get(at..at + SEGMENT_BYTES);
-        Segment::decode(frame.unwrap_or(&[]))
+        let bytes = self.edition.segment_bytes();
+        let at = HEAD_BYTES + segment * bytes;
+        let frame = self.network.as_bytes().get(at..at + bytes);
+        Segment::decode(self.edition, frame.unwrap_or(&[]))
     }
 
-    /// Level and measure of a segment of the town.
+    /// Level and measure of a segment of the town, asked about it alone.
     pub fn judge(&self, segment: usize) -> Result<Judged, Fault> {
-        self.network.judge_segment(segment).map_err(unforeseen)
+        let alone = Part::of(self, &[segment]);
+        judge_segment(&alone.bytes(), 0).map_err(unforeseen)
+    }
+
+    /// The segments that have an end at each node, in their order.
+    pub fn corners(&self) -> Vec<Vec<usize>> {
+        let mut corners = vec![Vec::new(); self.network.nodes()];
+        for number in 0..self.network.segments() {
+            let segment = self.segment(number);
+            let [a, b] = [A_NODE, B_NODE].map(|end| segment.get(end) as usize);
+            corners[a].push(number);
+            if b != a {
+                corners[b].push(number);
+            }
+        }
+        corners
     }
 
     /// The nodes that a run leaves and reaches.
@@ -176,6 +197,13 @@ impl Town {
             _ => unforeseen(refusal),
         }
     }
+}
+
+/// The edition of a network that Read kept.
+fn edition(network: &Network) -> Result<Edition, Fault> {
+    let number = network.edition();
+    let unknown = || Fault::new(format!("edition {number:02X} is not known here"));
+    Edition::numbered(number.into()).ok_or_else(unknown)
 }
 
 /// The fault where a call refuses what the town itself gave it.

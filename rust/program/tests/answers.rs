@@ -7,7 +7,7 @@ use common::shown::Refused;
 use common::{GRID, Json, MEASURES, run, some_towns, table};
 use oracle::Net;
 use towns::Town;
-use towns::draw::{Rng, Spot, damage};
+use towns::draw::{Rng, Shape, Spot, damage, town_of};
 use towns::town::{Approach, Segment};
 
 #[test]
@@ -29,7 +29,7 @@ fn levels_are_the_oracles() {
             );
             assert_eq!(row.get("a").number(), usize::from(segment.a.node));
             assert_eq!(row.get("b").number(), usize::from(segment.b.node));
-            assert_eq!(row.get("feet").number(), usize::from(segment.length));
+            assert_eq!(row.get("feet").number(), segment.length as usize);
         }
     }
 }
@@ -49,6 +49,29 @@ fn routes_are_the_oracles() {
         }
     }
     assert!(found > 60 && none > 20, "{found} found, {none} none");
+}
+
+/// Counties of edition 03, with as many segments as their shape lets them have.
+#[test]
+fn routes_of_counties_are_the_oracles() {
+    let shapes = [
+        Shape::Tree,
+        Shape::Ties,
+        Shape::Maze,
+        Shape::Wild,
+        Shape::Sparse,
+    ];
+    let (mut rng, mut found) = (Rng::new(31), 0);
+    for (seed, shape) in (60..).zip(shapes) {
+        let county = town_of(3, shape, seed, 8_000);
+        assert!(county.segments.len() > 1_000, "{shape:?}");
+        for limit in ["3", "4", "least"] {
+            let nodes = usize::from(county.nodes);
+            let (from, to) = (rng.below(nodes), rng.below(nodes));
+            found += u32::from(routed(&county, from, to, limit));
+        }
+    }
+    assert!(found >= 6, "{found} found");
 }
 
 /// Asks for a route, and holds the answer to the oracle; whether there is one.

@@ -50,10 +50,11 @@ fn random_digits(rng: &mut Rng) -> Vec<u8> {
     (0..length).map(|_| rng.pick(letters)).collect()
 }
 
-/// A town, now and then with as many segments as there may be.
+/// A town, now and then with as many segments as there may be in its edition.
 fn some_town(rng: &mut Rng) -> towns::Town {
-    let size = if rng.chance(4) { 1_000 } else { rng.below(40) };
     let (edition, shape) = (rng.pick(&EDITIONS), rng.pick(&Shape::ALL));
+    let most = if edition < 3 { 1_000 } else { 8_000 };
+    let size = if rng.chance(4) { most } else { rng.below(40) };
     town_of(edition, shape, rng.bits(), size)
 }
 
@@ -105,7 +106,7 @@ fn changed(rng: &mut Rng, whole: Damaged) -> Vec<u8> {
 
 /// A table with some cells that hold something else.
 fn other_cells(rng: &mut Rng) -> Vec<u8> {
-    const WORDS: [&str; 28] = [
+    const WORDS: [&str; 31] = [
         "",
         "-",
         "-1",
@@ -113,6 +114,8 @@ fn other_cells(rng: &mut Rng) -> Vec<u8> {
         "255",
         "256",
         "65536",
+        "264,000",
+        "264001",
         "4294967296",
         "99999999999999999999",
         "1,000",
@@ -127,6 +130,7 @@ fn other_cells(rng: &mut Rng) -> Vec<u8> {
         "signal; straight 1 ft 5 mph",
         "edition",
         "02",
+        "03",
         "turn lane",
         "improved signal",
         "both",
@@ -151,6 +155,7 @@ fn mixed_lines(rng: &mut Rng) -> Vec<u8> {
         whole_table(rng),
         SEGMENTS.into(),
         b"| edition |\n|---|\n| 02 |\n\n".to_vec(),
+        b"| edition |\n|---|\n| 03 |\n\n".to_vec(),
         b"```\n\n\r\n".to_vec(),
     ]
     .concat();
@@ -188,12 +193,14 @@ const COMMANDS: [&str; 12] = [
 ];
 
 /// Greatest lengths, and words that are none.
-const FEET: [&str; 9] = [
+const FEET: [&str; 11] = [
     "0",
     "1",
     "500",
     "2000",
     "20000",
+    "2147483648",
+    "4224000000",
     "4294967295",
     "18446744073709551615",
     "18446744073709551616",

@@ -118,6 +118,8 @@ fn editions_are_taken() {
         (of_edition("| 1 |\n", &with(ROW)), "01"),
         (of_edition("| 02 |\n", &with(ROW)), "02"),
         (of_edition("| 2 |\n", &street), "02"),
+        (of_edition("| 03 |\n", &street), "03"),
+        (of_edition("| 3 |\n", &row("500", "264,000")), "03"),
         (format!("{street}\n| edition |\n| --- |\n| 02 |\n"), "02"),
         (
             format!(
@@ -142,13 +144,13 @@ fn editions_are_taken() {
 #[test]
 fn editions_that_are_none() {
     let none = |row: &str, due: &str| table_says(&of_edition(row, &with(ROW)), due);
-    none("", "line 1: a row is due in this table: 01 or 02");
+    none("", "line 1: a row is due in this table: 01, 02 or 03");
     none(
         "| 02 |\n| 01 |\n",
         "line 4: a second edition: a town has one",
     );
-    for row in ["0", "03", "04", "-1", "", "two", "-", "99999999999"] {
-        let words = format!("line 3: edition is '{row}', and must be one of: 01, 02");
+    for row in ["0", "04", "30", "-1", "", "two", "-", "99999999999"] {
+        let words = format!("line 3: edition is '{row}', and must be 01, 02 or 03");
         none(&format!("| {row} |\n"), &words);
     }
     none("| 02 | new |\n", "line 3: 2 cells, and the heading has 1");
@@ -315,11 +317,15 @@ fn fields_against_the_rules() {
     );
     table_says(
         &row("500", "52,801"),
-        &refused("length is 52801 and must be 1 to 52800"),
+        &refused("length is 52801 and must be 1 to 52800; edition 03 has 1 to 264000"),
     );
     table_says(
         &row("500", "70000"),
-        &refused("length is 70000 and must be 1 to 52800"),
+        &refused("length is 70000 and must be 1 to 52800; edition 03 has 1 to 264000"),
+    );
+    table_says(
+        &row("500", "264,001"),
+        &refused("length is 264001 and must be 1 to 52800"),
     );
     table_says(
         &mixed("| 2 | 25 |", "| - | 25 |"),
@@ -355,19 +361,54 @@ fn approaches_against_the_rules() {
 #[test]
 fn counts() {
     let refused = |words: &str| format!("refused, number 4, line 1: {words}");
-    let no_nodes = with(ROW).replace("| 0 | here |\n| 1 | there |\n", "");
-    table_says(&no_nodes, &refused("0 nodes: a town has 1 to 1000"));
-    let many: String = (0..70_000)
-        .map(|node| format!("| {node} | a |\n"))
-        .collect();
-    let many = with(ROW).replace("| 0 | here |\n| 1 | there |\n", &many);
-    table_says(&many, &refused("70000 nodes: a town has 1 to 1000"));
+    let of = |nodes: u32| {
+        let rows: String = (0..nodes).map(|node| format!("| {node} | a |\n")).collect();
+        with(ROW).replace("| 0 | here |\n| 1 | there |\n", &rows)
+    };
+    let later = "edition 01 has 1 to 1000; edition 03 has 1 to 8000";
+    table_says(&of(0), &refused("0 nodes: edition 01 has 1 to 1000"));
+    table_says(&of(1_001), &refused(&format!("1001 nodes: {later}")));
+    table_says(
+        &of(70_000),
+        &refused("70000 nodes: edition 01 has 1 to 1000"),
+    );
+    table_says(
+        &of_edition("| 03 |\n", &of(8_001)),
+        "refused, number 4, line 5: 8001 nodes: edition 03 has 1 to 8000",
+    );
+    let county = of_edition("| 03 |\n", &of(8_000));
+    let said = run(&["check", "-"], county.as_bytes());
+    let due = "standard input: in order, edition 03, nodes 8000, segments 1\n";
+    assert_eq!((said.out.as_str(), said.err.as_str()), (due, ""));
     let rows: String = (0..1_001)
         .map(|number| ROW.replacen("| 0 |", &format!("| {number} |"), 1))
         .collect();
     table_says(
         &with(&rows),
-        "refused, number 4, line 6: 1001 segments: a town has at most 1000",
+        "refused, number 4, line 6: 1001 segments: edition 01 has 0 to 1000; edition 03 has 0 to 8000",
+    );
+}
+
+/// What edition 03 refuses in a table: the lengths are its own, the marks and
+/// controls those of edition 02.
+#[test]
+fn fields_against_the_rules_of_edition_03() {
+    let refused = |table: &str, words: &str| {
+        let due = format!("refused, number 4, line 12: {words}");
+        table_says(&of_edition("| 03 |\n", table), &due);
+    };
+    for feet in ["0", "264,001", "4294967295"] {
+        let plain = feet.replace(',', "");
+        let words = format!("length is {plain} and must be 1 to 264000");
+        refused(&row("500", feet), &words);
+    }
+    refused(
+        &row("- | nothing", "turn lane | nothing"),
+        "marks is 16 and must be 0 on a separate path",
+    );
+    refused(
+        &row("nothing |\n", "improved signal 4 lanes 30 mph |\n"),
+        "lanes crossed at A is 4 and must be 0 at an improved signal",
     );
 }
 
@@ -512,17 +553,17 @@ const TEXTS: [(&[u8], &str, &[&str]); 21] = [
     ),
     (
         b"010900010000F5\n",
-        "number 4, line 1: edition 09 is not known: 01 and 02 are",
+        "number 4, line 1: edition 09 is not known: 01, 02 and 03 are",
         &["  1 | 010900010000F5", "    |   ^^", "    |     Digits  Field     Number", "    |     01      kind           1", "    |  >  09      edition        9", "    |     0001    nodes          1", "    |     0000    segments       0", "    |     F5      check        245"],
     ),
     (
         b"010100000000FE\n",
-        "number 4, line 1: 0 nodes: a town has 1 to 1000",
+        "number 4, line 1: 0 nodes: edition 01 has 1 to 1000",
         &["  1 | 010100000000FE", "    |     ^^^^", "    |     Digits  Field     Number", "    |     01      kind           1", "    |     01      edition        1", "    |  >  0000    nodes          0", "    |     0000    segments       0", "    |     FE      check        254"],
     ),
     (
         b"0101000103E911\n",
-        "number 4, line 1: 1001 segments: a town has at most 1000",
+        "number 4, line 1: 1001 segments: edition 01 has 0 to 1000; edition 03 has 0 to 8000",
         &["  1 | 0101000103E911", "    |         ^^^^", "    |     Digits  Field     Number", "    |     01      kind           1", "    |     01      edition        1", "    |     0001    nodes          1", "    |  >  03E9    segments    1001", "    |     11      check         17"],
     ),
     (
@@ -537,7 +578,7 @@ const TEXTS: [(&[u8], &str, &[&str]); 21] = [
     ),
     (
         b"010100010000FD\n0200FE\n",
-        "number 3, line 2: the line has 3 bytes, and a segment has 30: digits are missing",
+        "number 3, line 2: the line has 3 bytes, and a segment of edition 01 has 30: digits are missing",
         &["  2 | 0200FE"],
     ),
 ];

@@ -81,9 +81,9 @@ fn streets(town: &Town, due: &BTreeMap<usize, u32>, tolerance: u8, answer: &Json
     for (s, segment) in town.segments.iter().enumerate() {
         let ends = [segment.a, segment.b].map(|end| usize::from(end.node));
         let level = oracle.segment(s).expect("a segment").0;
-        all += usize::from(segment.length);
+        all += segment.length as usize;
         if level <= tolerance && ends.iter().all(|node| due.contains_key(node)) {
-            within += usize::from(segment.length);
+            within += segment.length as usize;
         }
     }
     let told = ["within", "all"].map(|field| answer.get("street_feet").get(field).number());

@@ -201,12 +201,18 @@ fn totals(page: &str, path: &str, tolerance: usize, map: &[(usize, u32)]) {
     let (oracle, bytes) = (network(path), kept(path));
     let map: BTreeMap<usize, u32> = map.iter().copied().collect();
     let (mut within, mut all) = (0, 0);
-    for (s, frame) in bytes[7..].chunks(30).enumerate() {
+    let wide = bytes[1] == 3;
+    for (s, frame) in bytes[7..].chunks(if wide { 32 } else { 30 }).enumerate() {
         let field = |at: usize| usize::from(frame[at]) * 256 + usize::from(frame[at + 1]);
         let joined = map.contains_key(&field(1)) && map.contains_key(&field(4));
         let level = usize::from(oracle.segment(s).expect("a segment").0);
-        all += field(7);
-        within += usize::from(joined && level <= tolerance) * field(7);
+        let feet = if wide {
+            field(7) << 16 | field(9)
+        } else {
+            field(7)
+        };
+        all += feet;
+        within += usize::from(joined && level <= tolerance) * feet;
     }
     let (reached, nodes) = (map.len(), oracle.nodes());
     let share = |part: usize, whole: usize| match whole {
@@ -363,14 +369,18 @@ fn fields_are_documented() {
         "check-json",
         "levels-json",
         "levels-json-coldwell",
+        "levels-json-tarnmoor",
         "json-found",
+        "json-found-tarnmoor",
         "json-none",
         "json-reach",
+        "json-reach-tarnmoor",
         "json-nearest",
         "json-nearest-none",
         "json-refused",
         "json-refused-1",
         "json-refused-4",
+        "json-refused-4-length-03",
         "json-refused-4-turn-lane",
     ] {
         let stored = file(&format!("tests/splicereel/{name}.out"));

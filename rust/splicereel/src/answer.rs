@@ -92,8 +92,8 @@ pub enum Measure {
     Speed,
     /// 4: how often the bike lane is blocked.
     Blocking,
-    /// 5: mixed traffic, judged as a whole; under edition 02 also beside a bike
-    /// lane, where that is the lower level.
+    /// 5: mixed traffic, judged as a whole; under editions 02 and 03 also beside
+    /// a bike lane, where that is the lower level.
     MixedTraffic,
     /// 6: a separate path.
     SeparatePath,

@@ -11,7 +11,7 @@ use crate::refusal::{ReadRefusal, Refusal, RefusedLine};
 /// ```
 /// use splicereel::{read, Refusal, MAX_NETWORK};
 ///
-/// let mut output = [0; MAX_NETWORK];
+/// let mut output = vec![0; MAX_NETWORK];
 /// assert_eq!(read(b"010100010000FD\n", &mut output), Ok(7));
 ///
 /// let refused = read(b"010100010000FD\n", &mut output[..6]).unwrap_err();
@@ -144,10 +144,10 @@ fn found(told: &Told) -> Result<Option<Found>, Refusal> {
 /// [`Refusal::NoSuchTolerance`], [`Refusal::NoRoom`].
 ///
 /// ```
-/// use splicereel::{route, Lent, Level, Network, MAX_RUNS};
+/// use splicereel::{route, Lent, Level, Network, TOWN_RUNS};
 /// # let text = include_bytes!(concat!(env!("CARGO_MANIFEST_DIR"), "/../../towns/block-town.txt"));
 /// let network = Network::read(text)?;
-/// let (mut best, mut previous, mut buffer) = ([0; MAX_RUNS], [0; MAX_RUNS], [7; MAX_RUNS + 1]);
+/// let (mut best, mut previous, mut buffer) = ([0; TOWN_RUNS], [0; TOWN_RUNS], [7; TOWN_RUNS + 1]);
 /// let lent = Lent { best: &mut best, previous: &mut previous, buffer: &mut buffer, place: 1 };
 /// let found = route(network.as_bytes(), 0, 2, 3, lent)?.expect("a way round the block");
 /// assert_eq!((found.count, found.feet, found.level), (3, 1_500, Level::One));
@@ -174,10 +174,10 @@ pub fn route(
 /// [`Refusal::NoRoom`].
 ///
 /// ```
-/// use splicereel::{least_stress, Lent, Level, Network, MAX_RUNS};
+/// use splicereel::{least_stress, Lent, Level, Network, TOWN_RUNS};
 /// # let text = include_bytes!(concat!(env!("CARGO_MANIFEST_DIR"), "/../../towns/block-town.txt"));
 /// let network = Network::read(text)?;
-/// let (mut best, mut previous, mut buffer) = ([0; MAX_RUNS], [0; MAX_RUNS], [0; MAX_RUNS]);
+/// let (mut best, mut previous, mut buffer) = ([0; TOWN_RUNS], [0; TOWN_RUNS], [0; TOWN_RUNS]);
 /// let lent = Lent { best: &mut best, previous: &mut previous, buffer: &mut buffer, place: 0 };
 /// let (found, tolerance) = least_stress(network.as_bytes(), 0, 2, lent)?.expect("a way");
 /// assert_eq!((found.feet, tolerance), (1_500, Level::One));
@@ -212,10 +212,10 @@ pub fn least_stress(
 /// node.
 ///
 /// ```
-/// use splicereel::{reach_map, Network, Scratch, MAX_LIST, MAX_RUNS};
+/// use splicereel::{reach_map, Network, Scratch, TOWN_LIST, TOWN_RUNS};
 /// # let text = include_bytes!(concat!(env!("CARGO_MANIFEST_DIR"), "/../../towns/block-town.txt"));
 /// let network = Network::read(text)?;
-/// let (mut best, mut previous, mut list) = ([0; MAX_RUNS], [0; MAX_RUNS], [7; MAX_LIST]);
+/// let (mut best, mut previous, mut list) = ([0; TOWN_RUNS], [0; TOWN_RUNS], [7; TOWN_LIST]);
 /// let scratch = Scratch { best: &mut best, previous: &mut previous };
 /// let entries = reach_map(network.as_bytes(), 0, 3, 1_500, scratch, &mut list)?;
 /// let entries: Vec<_> = entries.map(|entry| (entry.node, entry.feet)).collect();
@@ -255,10 +255,10 @@ pub fn reach_map<'l>(
 /// [`Refusal::TooFewEntries`] for fewer marks than nodes.
 ///
 /// ```
-/// use splicereel::{nearest, Entry, Network, Scratch, MAX_RUNS};
+/// use splicereel::{nearest, Entry, Network, Scratch, TOWN_RUNS};
 /// # let text = include_bytes!(concat!(env!("CARGO_MANIFEST_DIR"), "/../../towns/block-town.txt"));
 /// let network = Network::read(text)?;
-/// let (mut best, mut previous) = ([0; MAX_RUNS], [0; MAX_RUNS]);
+/// let (mut best, mut previous) = ([0; TOWN_RUNS], [0; TOWN_RUNS]);
 /// let mut ask = |marks: &[u8]| {
 ///     let scratch = Scratch { best: &mut best, previous: &mut previous };
 ///     nearest(network.as_bytes(), 0, 3, marks, scratch)

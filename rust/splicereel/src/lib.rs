@@ -10,8 +10,10 @@
 //!   [`route`] and [`least_stress`], with [`Lent`] for what a search borrows,
 //!   [`reach_map`] and [`nearest`], with [`Scratch`].
 //!
-//! Networks of editions 01 and 02 are read, and judged by the rules of the
-//! edition that their head names ([`Network::edition`]).
+//! Networks of editions 01, 02 and 03 are read, and judged by the rules of the
+//! edition that their head names ([`Network::edition`]). Edition 03 has the
+//! rules of 02, and is for counties: up to [`MAX_NODES`] nodes and
+//! [`MAX_SEGMENTS`] segments, each of up to 264,000 feet.
 //!
 //! Every call ends with an answer or a [`Refusal`] on every input; none
 //! panics, and a refusal leaves every lent slice as it was. The crate needs
@@ -61,11 +63,17 @@ pub use network::{Network, Route};
 pub use reach::{Entries, ReachMap};
 pub use refusal::{ReadRefusal, Refusal, RefusedLine};
 
-/// The most nodes of every network that [`read`] can keep; today that is the
-/// largest of editions 01 and 02.
-pub const MAX_NODES: usize = 1_000;
+/// The most nodes of every network that [`read`] can keep; that is the largest
+/// of edition 03.
+pub const MAX_NODES: usize = 8_000;
 /// The most segments of every network that [`read`] can keep.
-pub const MAX_SEGMENTS: usize = 1_000;
+pub const MAX_SEGMENTS: usize = 8_000;
+/// The bytes of the longest text that [`read`] accepts: 15 for the head's line,
+/// and 65 for each segment's.
+pub const MAX_TEXT: usize = 15 + 65 * MAX_SEGMENTS;
+/// Feet that no length which a call tells is above: [`MAX_RUNS`] runs of
+/// 264,000 feet.
+pub const MAX_FEET: u32 = 264_000 * MAX_RUNS as u32;
 /// The most runs of every network: two for each segment.
 ///
 /// Scratch slices and a buffer so long serve every network.
@@ -74,14 +82,15 @@ pub const MAX_RUNS: usize = 2 * MAX_SEGMENTS;
 ///
 /// A list so long serves every network, and so do marks for [`MAX_NODES`].
 pub const MAX_LIST: usize = 2 * MAX_NODES;
-/// The bytes of the largest network, 7 and 30 for each segment: an output so
+/// The bytes of the largest network, 7 and 32 for each segment: an output so
 /// long serves every network.
-pub const MAX_NETWORK: usize = 7 + 30 * MAX_SEGMENTS;
+pub const MAX_NETWORK: usize = 7 + 32 * MAX_SEGMENTS;
 
-/// The most nodes of a town; every network of editions 01 and 02 is a town.
+/// The most nodes of a town.
 ///
-/// A call about a town takes less than 64 KiB of stack, and one about a larger
-/// network less than 448 KiB.
+/// A network of at most so many nodes and [`TOWN_SEGMENTS`] segments is a town,
+/// a larger one a county: its counts decide that, not its edition. Every network
+/// of editions 01 and 02 is a town, and so is a small one of edition 03.
 pub const TOWN_NODES: usize = 1_000;
 /// The most segments of a town.
 pub const TOWN_SEGMENTS: usize = 1_000;
@@ -93,3 +102,8 @@ pub const TOWN_RUNS: usize = 2 * TOWN_SEGMENTS;
 ///
 /// A list so long serves every town.
 pub const TOWN_LIST: usize = 2 * TOWN_NODES;
+
+/// A call about a town takes less than so many bytes of stack, 64 KiB.
+pub const TOWN_STACK: usize = 64 * 1024;
+/// A call about a county takes less than so many bytes of stack, 448 KiB.
+pub const COUNTY_STACK: usize = 448 * 1024;

@@ -1,11 +1,11 @@
 //! A network that owns its bytes, and routes that own their runs.
 
-use crate::MAX_NETWORK;
 use crate::answer::{Entry, Found, Judged, Level, Run};
 use crate::ffi::{Lent, Scratch};
 use crate::lending;
 use crate::reach::ReachMap;
 use crate::refusal::{ReadRefusal, Refusal, RefusedLine};
+use crate::{MAX_NETWORK, MAX_SEGMENTS};
 use alloc::vec;
 use alloc::vec::Vec;
 
@@ -18,6 +18,39 @@ use alloc::vec::Vec;
 /// for segment in 0..network.segments() {
 ///     assert_eq!(network.judge_segment(segment)?.level, Level::One);
 /// }
+/// # Ok::<(), Box<dyn std::error::Error>>(())
+/// ```
+///
+/// A county of edition 03: 8,000 nodes in a row, each joined to the next by a
+/// path of 264,000 feet.
+///
+/// ```
+/// use splicereel::{Level, Network};
+///
+/// // A frame's line: its bytes, and the check that makes them sum to 0.
+/// let line = |frame: &[u8]| {
+///     let check = frame.iter().fold(0u8, |sum, byte| sum.wrapping_sub(*byte));
+///     let digits = frame.iter().chain([&check]).map(|byte| format!("{byte:02X}"));
+///     digits.collect::<String>() + "\n"
+/// };
+/// let mut text = line(&[[1, 3], [0x1F, 0x40], [0x1F, 0x3F]].concat());
+/// for node in 0..7_999_u16 {
+///     let mut frame = [0; 31];
+///     frame[0] = 2;
+///     // The A end at leg 2 of the node, the B end at leg 6 of the next.
+///     frame[1..3].copy_from_slice(&node.to_be_bytes());
+///     frame[3] = 2;
+///     frame[4..6].copy_from_slice(&(node + 1).to_be_bytes());
+///     frame[6] = 6;
+///     frame[7..11].copy_from_slice(&264_000_u32.to_be_bytes());
+///     // A separate path, open both ways.
+///     frame[11..13].copy_from_slice(&[3, 3]);
+///     text += &line(&frame);
+/// }
+/// let county = Network::read(text.as_bytes())?;
+/// assert_eq!((county.edition(), county.nodes(), county.segments()), (3, 8_000, 7_999));
+/// let route = county.route(0, 7_999, Level::One)?.expect("a way along the row");
+/// assert_eq!((route.runs().len(), route.feet()), (7_999, 7_999 * 264_000));
 /// # Ok::<(), Box<dyn std::error::Error>>(())
 /// ```
 #[derive(Clone, Debug, PartialEq, Eq, Hash)]
@@ -39,7 +72,7 @@ impl Network {
     /// # Ok::<(), splicereel::ReadRefusal>(())
     /// ```
     pub fn read(text: &[u8]) -> Result<Network, ReadRefusal> {
-        let mut bytes = vec![0; MAX_NETWORK];
+        let mut bytes = vec![0; room(text)];
         let written = lending::read(text, &mut bytes)?;
         bytes.truncate(written);
         bytes.shrink_to_fit();
@@ -96,7 +129,8 @@ impl Network {
         }
     }
 
-    /// The edition that its head names, by whose rules it is judged: 1 or 2.
+    /// The edition that its head names, by whose rules it is judged: 1, 2 or 3,
+    /// which has the rules of 2.
     ///
     /// This street has a bike lane beside parking, one lane each way, a limit of
     /// 25 mph and a reach of 26 half feet, and is residential. By the rules of
@@ -161,9 +195,9 @@ impl Network {
     /// Level of the movement from one run onto another, or
     /// [`Refusal::NoSuchRun`], or [`Refusal::NoMovement`].
     ///
-    /// Under edition 02 a signal is level 4. In Coldwell it is crossed on the way
-    /// from segment 2 onto segment 3, and an improved one, level 1, from segment
-    /// 4 onto segment 5:
+    /// Under editions 02 and 03 a signal is level 4. In Coldwell it is crossed on
+    /// the way from segment 2 onto segment 3, and an improved one, level 1, from
+    /// segment 4 onto segment 5:
     ///
     /// ```
     /// use splicereel::{Level, Network, Run};
@@ -307,6 +341,16 @@ impl Network {
     fn runs(&self) -> usize {
         2 * self.segments()
     }
+}
+
+/// Bytes enough for the segments that a text's first line counts, whatever its
+/// edition. Where no head stands there, Read refuses that line, and needs none.
+fn room(text: &[u8]) -> usize {
+    let digits = text
+        .get(8..12)
+        .and_then(|digits| str::from_utf8(digits).ok());
+    let count = digits.and_then(|digits| usize::from_str_radix(digits, 16).ok());
+    7 + 32 * count.unwrap_or(0).min(MAX_SEGMENTS)
 }
 
 /// What a search over one network borrows.

@@ -250,7 +250,7 @@ fn refusals_have_numbers_and_words() {
 }
 
 /// A call about a town takes less than 64 KiB of stack, as the header says; the
-/// thread's own needs get 16 more.
+/// thread's own needs get 16 more. Counties are in counties.rs.
 #[test]
 fn calls_fit_a_small_stack() {
     let town = draw::town(Shape::Grid, 11, TOWN_SEGMENTS);

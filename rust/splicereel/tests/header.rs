@@ -2,8 +2,8 @@
 //! text, a reach map and the nearest node are told where the header says.
 
 use splicereel::ffi::{Part, Scratch, Told, nearest, reach_map, refused_line};
-use splicereel::{MAX_LIST, MAX_NETWORK, MAX_NODES, MAX_RUNS, MAX_SEGMENTS};
-use splicereel::{TOWN_LIST, TOWN_NODES, TOWN_RUNS, TOWN_SEGMENTS};
+use splicereel::{COUNTY_STACK, TOWN_LIST, TOWN_NODES, TOWN_RUNS, TOWN_SEGMENTS, TOWN_STACK};
+use splicereel::{MAX_FEET, MAX_LIST, MAX_NETWORK, MAX_NODES, MAX_RUNS, MAX_SEGMENTS, MAX_TEXT};
 use towns::town::block_town;
 
 const HEADER: &str = include_str!("../../../include/splicereel.h");
@@ -23,6 +23,7 @@ fn sizes_are_the_headers() {
     for (name, size) in [
         ("SPLICEREEL_MAX_NODES", MAX_NODES),
         ("SPLICEREEL_MAX_SEGMENTS", MAX_SEGMENTS),
+        ("SPLICEREEL_MAX_TEXT", MAX_TEXT),
         ("SPLICEREEL_MAX_NETWORK", MAX_NETWORK),
         ("SPLICEREEL_MAX_RUNS", MAX_RUNS),
         ("SPLICEREEL_MAX_LIST", MAX_LIST),
@@ -30,11 +31,16 @@ fn sizes_are_the_headers() {
         ("SPLICEREEL_TOWN_SEGMENTS", TOWN_SEGMENTS),
         ("SPLICEREEL_TOWN_RUNS", TOWN_RUNS),
         ("SPLICEREEL_TOWN_LIST", TOWN_LIST),
+        ("SPLICEREEL_TOWN_STACK", TOWN_STACK),
+        ("SPLICEREEL_COUNTY_STACK", COUNTY_STACK),
         ("SPLICEREEL_TOLD", Told::default().len()),
         ("SPLICEREEL_PART", Part::default().len()),
     ] {
         assert_eq!(value(name), size, "{name}");
     }
+    // It is no int, and so a macro.
+    let longest = format!("#define SPLICEREEL_MAX_FEET UINT32_C({MAX_FEET})\n");
+    assert!(HEADER.contains(&longest), "{longest}");
 }
 
 #[test]

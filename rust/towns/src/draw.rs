@@ -7,7 +7,7 @@ mod fields;
 mod plan;
 
 pub use damage::{Damage, Spot, change, damage, damage_kept, seal};
-pub use plan::{mixed_grid, town, town_of};
+pub use plan::{county_grid, mixed_grid, mixed_grid_of, town, town_of};
 
 /// The splitmix generator.
 #[derive(Clone, Debug)]
@@ -83,13 +83,17 @@ pub enum Shape {
     Single,
     /// Nodes without segments.
     Empty,
-    /// As many nodes as a town may have, most of them far from the streets.
+    /// As many nodes as a town may have, most of them far from the streets; of
+    /// edition 03 also one more, and as many as a county may have.
     Sparse,
+    /// A chain that must be ridden to its end, turned at a loop, and ridden
+    /// back: from the first node to the last, within tolerance 3.
+    Back,
 }
 
 impl Shape {
     /// All shapes.
-    pub const ALL: [Shape; 13] = [
+    pub const ALL: [Shape; 14] = [
         Shape::Tree,
         Shape::Grid,
         Shape::Ring,
@@ -103,6 +107,7 @@ impl Shape {
         Shape::Single,
         Shape::Empty,
         Shape::Sparse,
+        Shape::Back,
     ];
 
     /// The name on a command line.
@@ -121,6 +126,7 @@ impl Shape {
             Shape::Single => "single",
             Shape::Empty => "empty",
             Shape::Sparse => "sparse",
+            Shape::Back => "back",
         }
     }
 

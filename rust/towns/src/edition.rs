@@ -1,10 +1,10 @@
 //! What an edition allows in its frames, beyond what all of them do.
 
 use crate::town::{BLOCKED, CENTRELINE, MEDIAN, RESIDENTIAL, TURN_LANE};
-use crate::town::{IMPROVED_SIGNAL, NEWER, OLDER, SIGNAL};
+use crate::town::{COUNTY, IMPROVED_SIGNAL, NEWER, OLDER, SIGNAL};
 
 /// The editions that exist, by the byte of a head that names them.
-pub const EDITIONS: [u8; 2] = [OLDER, NEWER];
+pub const EDITIONS: [u8; 3] = [OLDER, NEWER, COUNTY];
 
 /// All marks of the older edition together.
 const OLDER_MARKS: u8 = CENTRELINE + RESIDENTIAL + MEDIAN + BLOCKED;

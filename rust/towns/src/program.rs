@@ -34,3 +34,21 @@ pub fn usage(text: &str) -> ExitCode {
     eprintln!("usage: {text}");
     ExitCode::from(2)
 }
+
+/// The number that the command `cksum` prints of these bytes, so that a stored
+/// answer can name the text that it is about.
+pub fn cksum(bytes: &[u8]) -> u32 {
+    let step = |sum: u32, byte: u8| {
+        let mut sum = sum ^ u32::from(byte) << 24;
+        for _ in 0..8 {
+            let carry = sum >> 31;
+            sum = (sum << 1) ^ (carry * 0x04C1_1DB7);
+        }
+        sum
+    };
+    // The length comes last, its low byte first, without the zeros above it.
+    let length = bytes.len().to_le_bytes();
+    let digits = length.iter().rposition(|&byte| byte != 0);
+    let length = &length[..digits.map_or(0, |last| last + 1)];
+    !bytes.iter().chain(length).copied().fold(0, step)
+}

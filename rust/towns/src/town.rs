@@ -2,7 +2,7 @@
 //!
 //! Nothing is tested here: a builder may also make bytes that are no network.
 
-use crate::sizes::SEGMENT;
+use crate::sizes::{length_bytes, segment_bytes};
 
 /// Kind byte of a head.
 const HEAD_KIND: u8 = 1;
@@ -13,6 +13,8 @@ pub(crate) const SEGMENT_KIND: u8 = 2;
 pub const OLDER: u8 = 1;
 /// The byte of a head that names edition 02.
 pub const NEWER: u8 = 2;
+/// The byte of a head that names edition 03, whose frames have longer lengths.
+pub const COUNTY: u8 = 3;
 
 /// A segment's end: a node and one of its legs.
 #[derive(Clone, Copy, Debug, Default, PartialEq, Eq)]
@@ -48,8 +50,8 @@ pub struct Approach {
 }
 
 impl Approach {
-    /// An approach to a signal; with a bicycle left-turn improvement it is one
-    /// of edition 02.
+    /// An approach to a signal; with a bicycle left-turn improvement it is none
+    /// of edition 01.
     pub fn signal(improved: bool) -> Approach {
         Approach::crossing(if improved { IMPROVED_SIGNAL } else { SIGNAL }, 0, 0)
     }
@@ -83,7 +85,7 @@ impl Approach {
 
 /// Control: signal.
 pub const SIGNAL: u8 = 1;
-/// Control: signal with a bicycle left-turn improvement, in edition 02.
+/// Control: signal with a bicycle left-turn improvement, from edition 02 on.
 pub const IMPROVED_SIGNAL: u8 = 5;
 
 /// Marks: centreline marked.
@@ -94,7 +96,7 @@ pub const RESIDENTIAL: u8 = 2;
 pub const MEDIAN: u8 = 4;
 /// Marks: bike lane often blocked.
 pub const BLOCKED: u8 = 8;
-/// Marks: central two-way turn lane, in edition 02.
+/// Marks: central two-way turn lane, from edition 02 on.
 pub const TURN_LANE: u8 = 16;
 
 /// A segment, with all fields of its frame between kind and check.
@@ -105,7 +107,7 @@ pub struct Segment {
     /// The B end.
     pub b: End,
     /// Feet.
-    pub length: u16,
+    pub length: u32,
     /// 0 mixed traffic, 1 bike lane beside parking, 2 without, 3 path.
     pub form: u8,
     /// 1 open from A to B, 2 from B to A, 3 both.
@@ -126,7 +128,7 @@ pub struct Segment {
 
 impl Segment {
     /// A separate path open both ways, nothing met at its ends.
-    pub fn path(a: End, b: End, length: u16) -> Segment {
+    pub fn path(a: End, b: End, length: u32) -> Segment {
         Segment {
             a,
             b,
@@ -169,15 +171,21 @@ impl Segment {
         Segment { at_a, ..self }
     }
 
-    /// The frame, check computed.
+    /// The frame of edition 01 or 02, check computed.
     pub fn frame(&self) -> Vec<u8> {
-        let mut out = Vec::with_capacity(SEGMENT);
+        self.frame_of(OLDER)
+    }
+
+    /// The same of an edition. What the length has above its bytes there is cut.
+    pub fn frame_of(&self, edition: u8) -> Vec<u8> {
+        let mut out = Vec::with_capacity(segment_bytes(edition));
         out.push(SEGMENT_KIND);
         for e in [self.a, self.b] {
             out.extend(e.node.to_be_bytes());
             out.push(e.leg);
         }
-        out.extend(self.length.to_be_bytes());
+        let length = self.length.to_be_bytes();
+        out.extend(&length[length.len() - length_bytes(edition)..]);
         out.extend([
             self.form, self.ways, self.lanes, self.speed, self.reach, self.marks,
         ]);
@@ -232,7 +240,8 @@ impl Town {
     /// The head frame, then each segment's.
     pub fn frames(&self) -> Vec<Vec<u8>> {
         let mut frames = vec![self.head()];
-        frames.extend(self.segments.iter().map(Segment::frame));
+        let of_edition = |segment: &Segment| segment.frame_of(self.edition);
+        frames.extend(self.segments.iter().map(of_edition));
         frames
     }
 

@@ -1,11 +1,9 @@
 //! The two frames: where their fields lie and when those are in order.
 
-use crate::edition::Edition;
+use crate::edition::{Edition, LONG, SHORT};
 
 /// Bytes of a head.
 pub(crate) const HEAD: usize = 7;
-/// Bytes of a segment frame; those of every edition are of its size.
-pub(crate) const SEGMENT: usize = Edition::One.frame_bytes();
 /// Kind byte of a head.
 pub(crate) const HEAD_KIND: u8 = 0x01;
 /// Kind byte of a segment frame.
@@ -13,22 +11,32 @@ pub(crate) const SEGMENT_KIND: u8 = 0x02;
 /// The longest turn lane, in feet.
 const MOST_TURN_FEET: u16 = 2_000;
 
-// Places in a segment frame. An end has its node in two bytes, then its leg;
-// what comes after the length moves with the length's width.
+// Places in a segment frame. An end has its node in two bytes, then its leg.
 const A: usize = 1;
 const B: usize = 4;
 const LENGTH: usize = 7;
-const FORM: usize = LENGTH + Edition::One.length_bytes();
-const WAYS: usize = FORM + 1;
-const LANES: usize = FORM + 2;
-const SPEED: usize = FORM + 3;
-const REACH: usize = FORM + 4;
-const MARKS: usize = FORM + 5;
-const AT_B: usize = FORM + 6;
-const AT_A: usize = AT_B + APPROACH;
 
 /// Bytes of an approach.
 const APPROACH: usize = 7;
+
+/// Places in a segment frame of `L` bytes after the length, which move with the
+/// length's width; the last is the check's.
+struct Place<const L: usize>;
+
+impl<const L: usize> Place<L> {
+    const AT_A: usize = L - 1 - APPROACH;
+    const AT_B: usize = Self::AT_A - APPROACH;
+    const MARKS: usize = Self::AT_B - 1;
+    const REACH: usize = Self::AT_B - 2;
+    const SPEED: usize = Self::AT_B - 3;
+    const LANES: usize = Self::AT_B - 4;
+    const WAYS: usize = Self::AT_B - 5;
+    const FORM: usize = Self::AT_B - 6;
+}
+
+// The length stands between the ends and the form.
+const _: () = assert!(Place::<SHORT>::FORM == LENGTH + Edition::Two.length_bytes());
+const _: () = assert!(Place::<LONG>::FORM == LENGTH + Edition::Three.length_bytes());
 
 /// Whether all bytes sum to 0 modulo 256.
 #[inline]
@@ -79,12 +87,12 @@ pub(crate) struct End {
     pub leg: usize,
 }
 
-/// A segment frame, fields read where they lie.
+/// A segment frame of `L` bytes, fields read where they lie.
 #[derive(Clone, Copy)]
 #[repr(transparent)]
-pub(crate) struct Segment<'a>(pub &'a [u8; SEGMENT]);
+pub(crate) struct Segment<'a, const L: usize>(pub &'a [u8; L]);
 
-impl<'a> Segment<'a> {
+impl<const L: usize> Segment<'_, L> {
     #[inline]
     fn end(self, at: usize) -> End {
         let f = self.0;
@@ -107,37 +115,37 @@ impl<'a> Segment<'a> {
     #[inline]
     pub fn length(self) -> u32 {
         let longer = |feet, &byte: &u8| feet << 8 | u32::from(byte);
-        self.0[LENGTH..FORM].iter().fold(0, longer)
+        self.0[LENGTH..Place::<L>::FORM].iter().fold(0, longer)
     }
 
     #[inline]
     pub fn form(self) -> u8 {
-        self.0[FORM]
+        self.0[Place::<L>::FORM]
     }
 
     #[inline]
     pub fn ways(self) -> u8 {
-        self.0[WAYS]
+        self.0[Place::<L>::WAYS]
     }
 
     #[inline]
     pub fn lanes(self) -> u8 {
-        self.0[LANES]
+        self.0[Place::<L>::LANES]
     }
 
     #[inline]
     pub fn speed(self) -> u8 {
-        self.0[SPEED]
+        self.0[Place::<L>::SPEED]
     }
 
     #[inline]
     pub fn reach(self) -> u8 {
-        self.0[REACH]
+        self.0[Place::<L>::REACH]
     }
 
     #[inline]
     pub fn marks(self) -> u8 {
-        self.0[MARKS]
+        self.0[Place::<L>::MARKS]
     }
 
     #[inline]
@@ -156,19 +164,20 @@ impl<'a> Segment<'a> {
 
     #[inline]
     pub fn at_b(self) -> Approach {
-        self.approach(AT_B)
+        self.approach(Place::<L>::AT_B)
     }
 
     #[inline]
     pub fn at_a(self) -> Approach {
-        self.approach(AT_A)
+        self.approach(Place::<L>::AT_A)
     }
 
     /// Whether the fields between kind and check obey the ranges and rules,
     /// in a network with this head.
     #[inline(always)]
     pub fn in_order(self, head: Head) -> bool {
-        let Head { edition, nodes, .. } = head;
+        let Head { nodes, .. } = head;
+        let edition = head.edition.of_width::<L>();
         let (a, b) = (self.a(), self.b());
         let lanes = self.lanes();
         let speed = self.speed();

@@ -30,12 +30,12 @@ fn band(speed: u8) -> usize {
 
 /// Level and governing measure of a segment.
 #[inline]
-pub(crate) fn segment(s: Segment<'_>, newer: bool) -> (u8, u8) {
+pub(crate) fn segment<const L: usize>(s: Segment<'_, L>, newer: bool) -> (u8, u8) {
     if newer { by_newer(s) } else { by_older(s) }
 }
 
 #[inline]
-fn by_older(s: Segment<'_>) -> (u8, u8) {
+fn by_older<const L: usize>(s: Segment<'_, L>) -> (u8, u8) {
     match s.form() {
         0 => (mixed(s.lanes(), band(s.speed()), s.marks()), 5),
         1 => governing(beside_parking(s, s.reach())),
@@ -47,7 +47,7 @@ fn by_older(s: Segment<'_>) -> (u8, u8) {
 /// The older rules with a wider reach; a bike lane is no worse than riding with
 /// the traffic beside it. Kept out of the way of the older rules.
 #[cold]
-fn by_newer(s: Segment<'_>) -> (u8, u8) {
+fn by_newer<const L: usize>(s: Segment<'_, L>) -> (u8, u8) {
     let own = match s.form() {
         1 => governing(beside_parking(s, widened(s))),
         2 => governing(without_parking(s, widened(s))),
@@ -65,7 +65,7 @@ fn by_newer(s: Segment<'_>) -> (u8, u8) {
 }
 
 /// The reach as the newer rules count it.
-fn widened(s: Segment<'_>) -> u8 {
+fn widened<const L: usize>(s: Segment<'_, L>) -> u8 {
     let widens = s.lanes() == 1 && s.ways() == 3 && s.marks() & TURN_LANE != 0;
     s.reach() + if widens { WIDENING } else { 0 }
 }
@@ -82,7 +82,7 @@ fn mixed(lanes: u8, band: usize, marks: u8) -> u8 {
 }
 
 #[inline]
-fn beside_parking(s: Segment<'_>, reach: u8) -> [u8; 4] {
+fn beside_parking<const L: usize>(s: Segment<'_, L>, reach: u8) -> [u8; 4] {
     // Note 2: there a narrow reach costs at most level 2.
     let quiet = s.speed() < 25 || s.marks() & RESIDENTIAL != 0;
     [
@@ -99,7 +99,7 @@ fn beside_parking(s: Segment<'_>, reach: u8) -> [u8; 4] {
 }
 
 #[inline]
-fn without_parking(s: Segment<'_>, reach: u8) -> [u8; 4] {
+fn without_parking<const L: usize>(s: Segment<'_, L>, reach: u8) -> [u8; 4] {
     [
         match s.lanes() {
             1 => 1,

@@ -1,6 +1,6 @@
 //! Bicycle stress levels and least-stress routes on a street network.
 //!
-//! An implementation of "document 01" and of Notes 1 to 5 of "document 02",
+//! An implementation of "document 01" and of Notes 1 to 6 of "document 02",
 //! written from those papers alone, to be compared with another one. The calls
 //! are [`read`], [`refused_line`], [`judge_segment`], [`judge_movement`],
 //! [`route`], [`least_stress`], [`reach_map`] and [`nearest`]; [`is_network`]

@@ -1,21 +1,21 @@
 //! Kept bytes under test 8, the used legs of their nodes, the runs that leave
 //! by them, and the two judgements.
 
-use crate::edition::{Edition, MAX_NODES, MAX_RUNS};
-use crate::frame::{End, HEAD, HEAD_KIND, Head, SEGMENT, SEGMENT_KIND, Segment, checks};
+use crate::edition::{Edition, LONG, MAX_RUNS, Memory, SHORT, in_memory};
+use crate::frame::{End, HEAD, HEAD_KIND, Head, SEGMENT_KIND, Segment, checks};
 use crate::level::{self, Arrival};
 use std::ops::Deref;
 
 // Every run fits 16 bits.
 const _: () = assert!(MAX_RUNS <= 1 << 16);
 
-/// The used legs of each node as eight bits: bit `k` is set exactly when leg
-/// `k` is used.
-pub(crate) struct Legs([u8; MAX_NODES]);
+/// The used legs of each of `N` nodes as eight bits: bit `k` is set exactly when
+/// leg `k` is used.
+pub(crate) struct Legs<const N: usize>([u8; N]);
 
-impl Legs {
-    pub fn new() -> Legs {
-        Legs([0; MAX_NODES])
+impl<const N: usize> Legs<N> {
+    pub fn new() -> Legs<N> {
+        Legs([0; N])
     }
 
     /// Takes the leg of an end; whether it was free.
@@ -30,14 +30,14 @@ impl Legs {
 
     /// The used legs of a node.
     #[inline]
-    fn at(&self, node: usize) -> impl Iterator<Item = usize> + use<> {
+    fn at(&self, node: usize) -> impl Iterator<Item = usize> + use<N> {
         falling(self.0[node])
     }
 
     /// The used legs of a node but the one of an arrival there, stepping down
     /// from it and round: the right-hand exit first.
     #[inline]
-    fn exits(&self, at: End) -> impl Iterator<Item = usize> + use<> {
+    fn exits(&self, at: End) -> impl Iterator<Item = usize> + use<N> {
         // Turned so that the leg of arrival is bit 0 and the next below bit 7.
         let turned = self.0[at.node].rotate_right(at.leg as u32);
         falling(turned & !1).map(move |bit| (at.leg + bit) % 8)
@@ -54,52 +54,53 @@ fn falling(mut bits: u8) -> impl Iterator<Item = usize> {
     })
 }
 
-/// For each used leg of each node the run that leaves there.
+/// For each used leg of each of `N` nodes the run that leaves there.
 ///
 /// The A end of segment `s` is left by run `2s`, its B end by run `2s + 1`,
 /// so the run arriving at a corner is the leaving one with its last bit
 /// turned.
-pub(crate) struct Corners([[u16; 8]; MAX_NODES]);
+pub(crate) struct Corners<const N: usize>([[u16; 8]; N]);
 
-impl Corners {
-    pub fn new() -> Corners {
-        Corners([[0; 8]; MAX_NODES])
+impl<const N: usize> Corners<N> {
+    pub fn new() -> Corners<N> {
+        Corners([[0; 8]; N])
     }
 }
 
-/// Bytes that passed test 8, with the used legs of their nodes.
+/// Bytes that passed test 8, with the used legs of their nodes: segment frames
+/// of `L` bytes, and at most `N` nodes.
 #[derive(Clone, Copy)]
-pub(crate) struct Network<'n, 'a> {
+pub(crate) struct Network<'n, 'a, const L: usize, const N: usize> {
     nodes: usize,
     /// Whether the newer rules tell its levels.
     newer: bool,
-    frames: &'n [[u8; SEGMENT]],
-    legs: &'a Legs,
+    frames: &'n [[u8; L]],
+    legs: &'a Legs<N>,
 }
 
 /// A network with the runs that leave its nodes, which a search needs.
 #[derive(Clone, Copy)]
-pub(crate) struct Indexed<'n, 'a> {
-    network: Network<'n, 'a>,
-    corners: &'a Corners,
+pub(crate) struct Indexed<'n, 'a, const L: usize, const N: usize> {
+    network: Network<'n, 'a, L, N>,
+    corners: &'a Corners<N>,
 }
 
-impl<'n, 'a> Deref for Indexed<'n, 'a> {
-    type Target = Network<'n, 'a>;
+impl<'n, 'a, const L: usize, const N: usize> Deref for Indexed<'n, 'a, L, N> {
+    type Target = Network<'n, 'a, L, N>;
 
     #[inline]
-    fn deref(&self) -> &Network<'n, 'a> {
+    fn deref(&self) -> &Network<'n, 'a, L, N> {
         &self.network
     }
 }
 
-impl<'n, 'a> Indexed<'n, 'a> {
+impl<'n, 'a, const L: usize, const N: usize> Indexed<'n, 'a, L, N> {
     /// Tests the bytes, gathering used legs and runs on the way.
     pub fn test(
         net: &'n [u8],
-        legs: &'a mut Legs,
-        corners: &'a mut Corners,
-    ) -> Option<Indexed<'n, 'a>> {
+        legs: &'a mut Legs<N>,
+        corners: &'a mut Corners<N>,
+    ) -> Option<Indexed<'n, 'a, L, N>> {
         let network = Network::test_noting(net, legs, |end, run| {
             corners.0[end.node][end.leg] = run as u16; // every run fits
         })?;
@@ -108,7 +109,7 @@ impl<'n, 'a> Indexed<'n, 'a> {
 
     /// The runs that leave a node.
     #[inline]
-    pub fn leaving(&self, node: usize) -> impl Iterator<Item = usize> + use<'a> {
+    pub fn leaving(&self, node: usize) -> impl Iterator<Item = usize> + use<'a, L, N> {
         let corner = &self.corners.0[node];
         self.legs.at(node).map(|leg| usize::from(corner[leg]))
     }
@@ -116,15 +117,15 @@ impl<'n, 'a> Indexed<'n, 'a> {
     /// The runs that leave a node by another leg than that of an arrival there,
     /// the one by the right-hand exit first.
     #[inline]
-    pub fn exits(&self, at: End) -> impl Iterator<Item = usize> + use<'a> {
+    pub fn exits(&self, at: End) -> impl Iterator<Item = usize> + use<'a, L, N> {
         let corner = &self.corners.0[at.node];
         self.legs.exits(at).map(|leg| usize::from(corner[leg]))
     }
 }
 
-impl<'n, 'a> Network<'n, 'a> {
+impl<'n, 'a, const L: usize, const N: usize> Network<'n, 'a, L, N> {
     /// Tests the bytes, gathering used legs on the way.
-    pub fn test(net: &'n [u8], legs: &'a mut Legs) -> Option<Network<'n, 'a>> {
+    pub fn test(net: &'n [u8], legs: &'a mut Legs<N>) -> Option<Network<'n, 'a, L, N>> {
         Network::test_noting(net, legs, |_, _| ())
     }
 
@@ -132,9 +133,9 @@ impl<'n, 'a> Network<'n, 'a> {
     #[inline]
     fn test_noting(
         net: &'n [u8],
-        legs: &'a mut Legs,
+        legs: &'a mut Legs<N>,
         note: impl FnMut(End, usize),
-    ) -> Option<Network<'n, 'a>> {
+    ) -> Option<Network<'n, 'a, L, N>> {
         let (head, body) = net.split_first_chunk::<HEAD>()?;
         if head[0] != HEAD_KIND || !checks(head) {
             return None;
@@ -143,11 +144,13 @@ impl<'n, 'a> Network<'n, 'a> {
         if net.len() != head.size() {
             return None;
         }
-        let (frames, _) = body.as_chunks::<SEGMENT>();
+        let (frames, _) = body.as_chunks::<L>();
         // A loop for each edition: what one adds costs the others nothing.
         let sound = match head.edition {
-            Edition::One => all_sound(frames, head.of(Edition::One), legs, note),
-            Edition::Two => all_sound(frames, head.of(Edition::Two), legs, note),
+            Edition::One if L == SHORT => all_sound(frames, head.of(Edition::One), legs, note),
+            Edition::Two if L == SHORT => all_sound(frames, head.of(Edition::Two), legs, note),
+            Edition::Three if L == LONG => all_sound(frames, head.of(Edition::Three), legs, note),
+            _ => false, // never: the width was chosen by the edition
         };
         sound.then_some(Network {
             nodes: head.nodes,
@@ -174,7 +177,7 @@ impl<'n, 'a> Network<'n, 'a> {
 
     /// The segment that a run rides.
     #[inline]
-    pub fn segment(&self, run: usize) -> Segment<'n> {
+    pub fn segment(&self, run: usize) -> Segment<'n, L> {
         Segment(&self.frames[run / 2])
     }
 
@@ -234,10 +237,10 @@ impl<'n, 'a> Network<'n, 'a> {
 /// Whether the segment frames of a network are in order, gathering used legs on
 /// the way and telling of each end.
 #[inline(always)]
-fn all_sound(
-    frames: &[[u8; SEGMENT]],
+fn all_sound<const L: usize, const N: usize>(
+    frames: &[[u8; L]],
     head: Head,
-    legs: &mut Legs,
+    legs: &mut Legs<N>,
     mut note: impl FnMut(End, usize),
 ) -> bool {
     for (s, frame) in frames.iter().enumerate() {
@@ -258,15 +261,25 @@ fn all_sound(
 
 /// Whether the bytes are a network that [`read`](crate::read()) could keep.
 pub fn is_network(net: &[u8]) -> bool {
-    Network::test(net, &mut Legs::new()).is_some()
+    in_memory!(Memory::of_kept(net), is_sound, (net))
+}
+
+#[inline(never)]
+fn is_sound<const L: usize, const N: usize>(net: &[u8]) -> bool {
+    Network::<L, N>::test(net, &mut Legs::new()).is_some()
 }
 
 /// Level and governing measure of segment `s`.
 ///
 /// Refusals: 8, then 12.
 pub fn judge_segment(net: &[u8], s: usize) -> Result<(u8, u8), u8> {
+    in_memory!(Memory::of_kept(net), segment_level, (net, s))
+}
+
+#[inline(never)]
+fn segment_level<const L: usize, const N: usize>(net: &[u8], s: usize) -> Result<(u8, u8), u8> {
     let mut legs = Legs::new();
-    let town = Network::test(net, &mut legs).ok_or(8)?;
+    let town = Network::<L, N>::test(net, &mut legs).ok_or(8)?;
     if s >= town.segments() {
         return Err(12);
     }
@@ -277,8 +290,17 @@ pub fn judge_segment(net: &[u8], s: usize) -> Result<(u8, u8), u8> {
 ///
 /// Refusals: 8, then 12 for either run, then 13.
 pub fn judge_movement(net: &[u8], p: usize, q: usize) -> Result<u8, u8> {
+    in_memory!(Memory::of_kept(net), movement_level, (net, p, q))
+}
+
+#[inline(never)]
+fn movement_level<const L: usize, const N: usize>(
+    net: &[u8],
+    p: usize,
+    q: usize,
+) -> Result<u8, u8> {
     let mut legs = Legs::new();
-    let town = Network::test(net, &mut legs).ok_or(8)?;
+    let town = Network::<L, N>::test(net, &mut legs).ok_or(8)?;
     let rideable = |run: usize| run < town.runs() && town.open(run);
     if !rideable(p) || !rideable(q) {
         return Err(12);

@@ -2,7 +2,7 @@
 //!
 //! Routes come in order of length, so that the first to a node tells its least.
 
-use crate::edition::MAX_NODES;
+use crate::edition::{Memory, in_memory};
 use crate::network::{Corners, Indexed, Legs};
 use crate::search::{FAR, Search};
 use std::ops::ControlFlow;
@@ -24,14 +24,31 @@ pub fn reach_map(
     previous: &mut [u32],
     list: &mut [u32],
 ) -> Result<usize, u8> {
+    let scratch = [best, previous];
+    in_memory!(
+        Memory::of_kept(net),
+        map_in,
+        (net, from, tolerance, greatest, scratch, list)
+    )
+}
+
+#[inline(never)]
+fn map_in<const L: usize, const N: usize>(
+    net: &[u8],
+    from: usize,
+    tolerance: u8,
+    greatest: usize,
+    scratch: [&mut [u32]; 2],
+    list: &mut [u32],
+) -> Result<usize, u8> {
     let (mut legs, mut corners) = (Legs::new(), Corners::new());
-    let town = Indexed::test(net, &mut legs, &mut corners).ok_or(8)?;
-    let (best, previous) = admit(&town, from, tolerance, best, previous)?;
+    let town = Indexed::<L, N>::test(net, &mut legs, &mut corners).ok_or(8)?;
+    let [best, previous] = admit(&town, from, tolerance, scratch)?;
     let list = list.get_mut(..2 * town.nodes()).ok_or(15)?;
 
     // Every length is below the greatest number that a list holds.
     let greatest = u32::try_from(greatest).unwrap_or(FAR);
-    let mut least = [FAR; MAX_NODES];
+    let mut least = [FAR; N];
     least[from] = 0;
     let mut missing = town.nodes() - 1;
     Search::over(&town, tolerance, greatest, best, previous).ride(from, |_, node, length| {
@@ -74,9 +91,25 @@ pub fn nearest(
     best: &mut [u32],
     previous: &mut [u32],
 ) -> Result<Option<(usize, u32)>, u8> {
+    let scratch = [best, previous];
+    in_memory!(
+        Memory::of_kept(net),
+        nearest_in,
+        (net, from, tolerance, marks, scratch)
+    )
+}
+
+#[inline(never)]
+fn nearest_in<const L: usize, const N: usize>(
+    net: &[u8],
+    from: usize,
+    tolerance: u8,
+    marks: &[u8],
+    scratch: [&mut [u32]; 2],
+) -> Result<Option<(usize, u32)>, u8> {
     let (mut legs, mut corners) = (Legs::new(), Corners::new());
-    let town = Indexed::test(net, &mut legs, &mut corners).ok_or(8)?;
-    let (best, previous) = admit(&town, from, tolerance, best, previous)?;
+    let town = Indexed::<L, N>::test(net, &mut legs, &mut corners).ok_or(8)?;
+    let [best, previous] = admit(&town, from, tolerance, scratch)?;
     let marks = marks.get(..town.nodes()).ok_or(15)?;
 
     if marks[from] != 0 {
@@ -97,13 +130,12 @@ pub fn nearest(
 }
 
 /// The lent slices, cut to what a search uses; or 9, 10 or 11.
-fn admit<'l>(
-    town: &Indexed<'_, '_>,
+fn admit<'l, const L: usize, const N: usize>(
+    town: &Indexed<'_, '_, L, N>,
     from: usize,
     tolerance: u8,
-    best: &'l mut [u32],
-    previous: &'l mut [u32],
-) -> Result<(&'l mut [u32], &'l mut [u32]), u8> {
+    [best, previous]: [&'l mut [u32]; 2],
+) -> Result<[&'l mut [u32]; 2], u8> {
     if from >= town.nodes() {
         return Err(9);
     }
@@ -112,5 +144,5 @@ fn admit<'l>(
     }
     let best = best.get_mut(..town.runs()).ok_or(11)?;
     let previous = previous.get_mut(..town.runs()).ok_or(11)?;
-    Ok((best, previous))
+    Ok([best, previous])
 }

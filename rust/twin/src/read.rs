@@ -1,7 +1,7 @@
 //! Read: a network text into kept bytes; and the line that it refuses.
 
-use crate::edition::MAX_SEGMENTS;
-use crate::frame::{HEAD, HEAD_KIND, Head, SEGMENT, SEGMENT_KIND, Segment, checks};
+use crate::edition::{Memory, in_memory};
+use crate::frame::{HEAD, HEAD_KIND, Head, SEGMENT_KIND, Segment, checks};
 use crate::network::Legs;
 use std::ops::Range;
 
@@ -26,17 +26,26 @@ struct Fault<'t> {
 /// `output` as it was.
 pub fn read(text: &[u8], output: &mut [u8]) -> Result<usize, (u8, usize)> {
     let (frame, head, rest) = head_line(text, output.len()).map_err(|number| (number, 1))?;
-    let size = head.size();
-
-    // Decoded here first, for a refusal may still come.
-    let mut kept = [[0; SEGMENT]; MAX_SEGMENTS];
-    let kept = &mut kept[..head.segments];
-    segments(rest, head, kept).map_err(|fault| (fault.number, fault.line))?;
-
-    let (first, others) = output[..size].split_at_mut(HEAD);
+    let (first, others) = output[..head.size()].split_at_mut(HEAD);
+    in_memory!(Memory::of(head), keep, (rest, head, others))
+        .map_err(|fault| (fault.number, fault.line))?;
     first.copy_from_slice(&frame);
-    others.copy_from_slice(kept.as_flattened());
-    Ok(size)
+    Ok(head.size())
+}
+
+/// Reads the lines after the head into `output`, if none of them is refused.
+#[inline(never)]
+fn keep<'t, const L: usize, const N: usize>(
+    rest: &'t [u8],
+    head: Head,
+    output: &mut [u8],
+) -> Result<(), Fault<'t>> {
+    // Decoded here first, for a refusal may still come.
+    let mut kept = [[0; L]; N];
+    let kept = &mut kept[..head.segments];
+    segments::<L, N>(rest, head, kept)?;
+    output.copy_from_slice(kept.as_flattened());
+    Ok(())
 }
 
 /// The part of a text that holds the line at which [`read`] refuses it, given
@@ -62,8 +71,14 @@ fn judge(text: &[u8], room: usize) -> Result<(), Fault<'_>> {
         line: 1,
         rest: text,
     })?;
-    let mut kept = [[0; SEGMENT]; MAX_SEGMENTS];
-    segments(rest, head, &mut kept[..head.segments])
+    in_memory!(Memory::of(head), pass, (rest, head))
+}
+
+/// Reads the lines after the head and keeps nothing.
+#[inline(never)]
+fn pass<const L: usize, const N: usize>(rest: &[u8], head: Head) -> Result<(), Fault<'_>> {
+    let mut kept = [[0; L]; N];
+    segments::<L, N>(rest, head, &mut kept[..head.segments])
 }
 
 /// Takes the first line as a head whose network has room: its frame, what it
@@ -82,17 +97,17 @@ fn head_line(text: &[u8], room: usize) -> Result<([u8; HEAD], Head, &[u8]), u8> 
 }
 
 /// Reads the lines after the head, a segment for each place.
-fn segments<'t>(
+fn segments<'t, const L: usize, const N: usize>(
     mut rest: &'t [u8],
     head: Head,
-    places: &mut [[u8; SEGMENT]],
+    places: &mut [[u8; L]],
 ) -> Result<(), Fault<'t>> {
-    let mut legs = Legs::new();
+    let mut legs = Legs::<N>::new();
     let mut places = places.iter_mut();
     let mut line = 2;
     while !rest.is_empty() {
         let fault = |number| Fault { number, line, rest };
-        let (segment, after) = first_frame::<SEGMENT>(rest, SEGMENT_KIND).map_err(fault)?;
+        let (segment, after) = first_frame::<L>(rest, SEGMENT_KIND).map_err(fault)?;
         let place = places.next().ok_or(fault(5))?;
         let fields = Segment(&segment);
         if !fields.in_order(head) {
@@ -135,19 +150,39 @@ fn first_frame<const L: usize>(text: &[u8], kind: u8) -> Result<([u8; L], &[u8])
 fn decode<const L: usize>(digits: &[u8]) -> Option<[u8; L]> {
     let (pairs, _) = digits.as_chunks::<2>();
     let pairs: &[[u8; 2]; L] = pairs.first_chunk()?;
-    let mut values = [[0; 2]; L];
+    let mut bytes = [0; L];
     let mut bad = 0;
-    // Two plain loops, which the compiler turns into vector steps.
-    for (value, &byte) in values
-        .as_flattened_mut()
-        .iter_mut()
-        .zip(pairs.as_flattened())
-    {
+    if L < WIDE {
+        for (byte, pair) in bytes.iter_mut().zip(pairs) {
+            let [this] = some(&[*pair], &mut bad);
+            *byte = this;
+        }
+    } else {
+        // From the start and up to the end: what lies between is decoded twice,
+        // and no step is narrower than the others.
+        let first = some::<WIDE>(pairs.first_chunk()?, &mut bad);
+        let last = some::<WIDE>(pairs.last_chunk()?, &mut bad);
+        *bytes.first_chunk_mut()? = first;
+        *bytes.last_chunk_mut()? = last;
+    }
+    (bad == 0).then_some(bytes)
+}
+
+/// Pairs that are decoded at once.
+const WIDE: usize = 16;
+
+/// The bytes of so many pairs; `bad` gets bits where one is none. Plain loops,
+/// which the compiler turns into vector steps.
+#[inline(always)]
+fn some<const W: usize>(pairs: &[[u8; 2]; W], bad: &mut u8) -> [u8; W] {
+    let mut values = [[0; 2]; W];
+    let digits = pairs.as_flattened();
+    for (value, &byte) in values.as_flattened_mut().iter_mut().zip(digits) {
         let (this, wrong) = digit(byte);
         *value = this;
-        bad |= wrong;
+        *bad |= wrong;
     }
-    (bad == 0).then(|| values.map(|[high, low]| high << 4 | low))
+    values.map(|[high, low]| high << 4 | low)
 }
 
 /// The value of an uppercase digit, and 1 if it is none; without a branch,

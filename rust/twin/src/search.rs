@@ -3,7 +3,7 @@
 //! Both search over runs, not nodes: what a movement costs depends on the leg
 //! by which the node was reached, and a node may come twice.
 
-use crate::edition::{MAX_FEET, MAX_NODES, MAX_RUNS};
+use crate::edition::{MAX_FEET, MAX_RUNS, Memory, in_memory};
 use crate::frame::End;
 use crate::level::Arrival;
 use crate::network::{Corners, Indexed, Legs};
@@ -56,15 +56,36 @@ pub fn route(
     buffer: &mut [u16],
     place: usize,
 ) -> Result<Option<Found>, u8> {
+    let lent = Lent {
+        best,
+        previous,
+        buffer,
+        place,
+    };
+    in_memory!(
+        Memory::of_kept(net),
+        route_in,
+        (net, from, to, tolerance, lent)
+    )
+}
+
+#[inline(never)]
+fn route_in<const L: usize, const N: usize>(
+    net: &[u8],
+    from: usize,
+    to: usize,
+    tolerance: u8,
+    lent: Lent<'_>,
+) -> Result<Option<Found>, u8> {
     let (mut legs, mut corners) = (Legs::new(), Corners::new());
-    let town = Indexed::test(net, &mut legs, &mut corners).ok_or(8)?;
+    let town = Indexed::<L, N>::test(net, &mut legs, &mut corners).ok_or(8)?;
     if from >= town.nodes() || to >= town.nodes() {
         return Err(9);
     }
     if !(1..=4).contains(&tolerance) {
         return Err(10);
     }
-    let lent = Lent::take(&town, best, previous, buffer, place).ok_or(11)?;
+    let lent = lent.cut(town.runs()).ok_or(11)?;
     if from == to {
         return Ok(Some(EMPTY));
     }
@@ -84,12 +105,28 @@ pub fn least_stress(
     buffer: &mut [u16],
     place: usize,
 ) -> Result<Option<(Found, u8)>, u8> {
+    let lent = Lent {
+        best,
+        previous,
+        buffer,
+        place,
+    };
+    in_memory!(Memory::of_kept(net), least_stress_in, (net, from, to, lent))
+}
+
+#[inline(never)]
+fn least_stress_in<const L: usize, const N: usize>(
+    net: &[u8],
+    from: usize,
+    to: usize,
+    lent: Lent<'_>,
+) -> Result<Option<(Found, u8)>, u8> {
     let (mut legs, mut corners) = (Legs::new(), Corners::new());
-    let town = Indexed::test(net, &mut legs, &mut corners).ok_or(8)?;
+    let town = Indexed::<L, N>::test(net, &mut legs, &mut corners).ok_or(8)?;
     if from >= town.nodes() || to >= town.nodes() {
         return Err(9);
     }
-    let lent = Lent::take(&town, best, previous, buffer, place).ok_or(11)?;
+    let lent = lent.cut(town.runs()).ok_or(11)?;
     if from == to {
         return Ok(Some((EMPTY, 1)));
     }
@@ -99,8 +136,27 @@ pub fn least_stress(
     Ok(shortest(&town, from, to, tolerance, lent).map(|found| (found, tolerance)))
 }
 
-/// The lent slices, cut to what a search uses.
+/// The lent slices, and the place in the buffer.
 struct Lent<'l> {
+    best: &'l mut [u32],
+    previous: &'l mut [u32],
+    buffer: &'l mut [u16],
+    place: usize,
+}
+
+impl<'l> Lent<'l> {
+    /// Cut to what a search over so many runs uses.
+    fn cut(self, runs: usize) -> Option<Cut<'l>> {
+        Some(Cut {
+            best: self.best.get_mut(..runs)?,
+            previous: self.previous.get_mut(..runs)?,
+            tail: self.buffer.get_mut(self.place..)?.get_mut(..runs)?,
+        })
+    }
+}
+
+/// What a search uses of the lent slices.
+struct Cut<'l> {
     /// A number for each run.
     best: &'l mut [u32],
     /// A number for each run.
@@ -109,31 +165,14 @@ struct Lent<'l> {
     tail: &'l mut [u16],
 }
 
-impl<'l> Lent<'l> {
-    fn take(
-        town: &Indexed<'_, '_>,
-        best: &'l mut [u32],
-        previous: &'l mut [u32],
-        buffer: &'l mut [u16],
-        place: usize,
-    ) -> Option<Lent<'l>> {
-        let runs = town.runs();
-        Some(Lent {
-            best: best.get_mut(..runs)?,
-            previous: previous.get_mut(..runs)?,
-            tail: buffer.get_mut(place..)?.get_mut(..runs)?,
-        })
-    }
-}
-
 /// The runs that a movement takes an arrived run onto, with the movement's
 /// level: the right-hand exit first.
 #[inline]
-fn movements<'a>(
-    town: &Indexed<'_, 'a>,
+fn movements<'a, const L: usize, const N: usize>(
+    town: &Indexed<'_, 'a, L, N>,
     at: End,
     arrival: Arrival,
-) -> impl Iterator<Item = (usize, u8)> + use<'a> {
+) -> impl Iterator<Item = (usize, u8)> + use<'a, L, N> {
     let mut level = arrival.right;
     town.exits(at)
         .map(move |next| (next, std::mem::replace(&mut level, arrival.other)))
@@ -145,11 +184,11 @@ fn movements<'a>(
 /// tolerance gives its best to all exits but the leg it came by, and the next
 /// such run, which came by another, to that one. Later runs are not better
 /// anywhere.
-struct Served([u8; MAX_NODES]);
+struct Served<const N: usize>([u8; N]);
 
-impl Served {
-    fn new() -> Served {
-        Served([0; MAX_NODES])
+impl<const N: usize> Served<N> {
+    fn new() -> Served<N> {
+        Served([0; N])
     }
 
     #[inline]
@@ -167,26 +206,26 @@ impl Served {
 
 /// Dijkstra's search with one label for each run: the best length of a route
 /// from `from` that ends in it.
-pub(crate) struct Search<'s> {
-    town: &'s Indexed<'s, 's>,
+pub(crate) struct Search<'s, const L: usize, const N: usize> {
+    town: &'s Indexed<'s, 's, L, N>,
     tolerance: u8,
     /// Routes of more feet are of no use.
     greatest: u32,
     best: &'s mut [u32],
     previous: &'s mut [u32],
     queue: Queue,
-    served: Served,
+    served: Served<N>,
 }
 
-impl<'s> Search<'s> {
+impl<'s, const L: usize, const N: usize> Search<'s, L, N> {
     /// A search that uses a number of `best` and of `previous` for each run.
     pub fn over(
-        town: &'s Indexed<'s, 's>,
+        town: &'s Indexed<'s, 's, L, N>,
         tolerance: u8,
         greatest: u32,
         best: &'s mut [u32],
         previous: &'s mut [u32],
-    ) -> Search<'s> {
+    ) -> Search<'s, L, N> {
         Search {
             town,
             tolerance,
@@ -257,14 +296,14 @@ impl<'s> Search<'s> {
     }
 }
 
-fn shortest(
-    town: &Indexed<'_, '_>,
+fn shortest<const L: usize, const N: usize>(
+    town: &Indexed<'_, '_, L, N>,
     from: usize,
     to: usize,
     tolerance: u8,
-    lent: Lent<'_>,
+    lent: Cut<'_>,
 ) -> Option<Found> {
-    let Lent {
+    let Cut {
         best,
         previous,
         tail,
@@ -298,8 +337,8 @@ impl Queue {
 
 /// Writes the route that ends in `last`; a run comes once in it at most, so
 /// the tail has room.
-fn write(
-    town: &Indexed<'_, '_>,
+fn write<const L: usize, const N: usize>(
+    town: &Indexed<'_, '_, L, N>,
     last: usize,
     length: u32,
     previous: &[u32],
@@ -329,15 +368,15 @@ fn write(
 }
 
 /// Runs reached so far, by the level of the way to them.
-struct Levels<'s> {
-    town: &'s Indexed<'s, 's>,
+struct Levels<'s, const L: usize, const N: usize> {
+    town: &'s Indexed<'s, 's, L, N>,
     /// The least level known for each run.
     least: &'s mut [u32],
     /// Runs that wait to be gone on from, a stack for each level.
     waiting: [Vec<u16>; 4],
 }
 
-impl Levels<'_> {
+impl<const L: usize, const N: usize> Levels<'_, L, N> {
     /// Puts a run, to which a way of level `so_far` leads, in its stack if its
     /// level is the least yet; gives that level.
     #[inline(always)]
@@ -359,8 +398,8 @@ impl Levels<'_> {
 ///
 /// The stacks of waiting runs are emptied from the lowest level, so a run is
 /// first taken at its least. `least` is scratch.
-fn least_tolerance(
-    town: &Indexed<'_, '_>,
+fn least_tolerance<const L: usize, const N: usize>(
+    town: &Indexed<'_, '_, L, N>,
     from: usize,
     to: usize,
     least: &mut [u32],
@@ -373,7 +412,7 @@ fn least_tolerance(
         least,
         waiting,
     };
-    let mut served = Served::new();
+    let mut served = Served::<N>::new();
     for run in town.leaving(from) {
         levels.reach(run, 1);
     }

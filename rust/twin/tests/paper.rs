@@ -7,7 +7,7 @@ use search::{least_stress, route};
 use towns::draw::Rng;
 use towns::lend::{Lengths, Lent};
 use towns::town::{Approach, Segment, Town, block_town, end};
-use towns::town::{BLOCKED, CENTRELINE, MEDIAN, NEWER, OLDER, RESIDENTIAL, TURN_LANE};
+use towns::town::{BLOCKED, CENTRELINE, COUNTY, MEDIAN, NEWER, OLDER, RESIDENTIAL, TURN_LANE};
 use twin::{Found, judge_movement, judge_segment, read};
 
 /// Level and measure of one street of edition 01, checked with the oracle.
@@ -16,10 +16,15 @@ fn street(form: u8, lanes: u8, speed: u8, reach: u8, marks: u8) -> (u8, u8) {
     judged(OLDER, segment)
 }
 
-/// Level and measure of one street of edition 02, open so.
+/// Level and measure of one street of edition 02, open so; edition 03 has the
+/// same, at any length.
 fn newer(ways: u8, form: u8, lanes: u8, speed: u8, reach: u8, marks: u8) -> (u8, u8) {
     let segment = Segment::path(end(0, 2), end(1, 6), 500).ways(ways);
-    judged(NEWER, segment.street(form, lanes, speed, reach, marks))
+    let street = segment.street(form, lanes, speed, reach, marks);
+    let answer = judged(NEWER, street);
+    let length = 264_000;
+    assert_eq!(judged(COUNTY, Segment { length, ..street }), answer);
+    answer
 }
 
 fn judged(edition: u8, segment: Segment) -> (u8, u8) {
@@ -318,14 +323,16 @@ fn signals() {
     let lane = |approach: Approach| approach.turning(1, 100, 15);
     assert_eq!(approach_of(OLDER, plain), (1, 1));
     assert_eq!(approach_of(OLDER, lane(plain)), (2, 2));
-    assert_eq!(approach_of(NEWER, plain), (4, 1));
-    assert_eq!(approach_of(NEWER, lane(plain)), (4, 2));
-    assert_eq!(approach_of(NEWER, improved), (1, 1));
-    assert_eq!(approach_of(NEWER, lane(improved)), (2, 2));
-    // Nothing else that is crossed has another level.
-    for (control, lanes, speed) in [(0, 0, 0), (2, 6, 25), (3, 6, 25), (4, 3, 26)] {
-        let crossing = Approach::crossing(control, lanes, speed);
-        assert_eq!(approach_of(NEWER, crossing), approach(crossing));
+    for edition in [NEWER, COUNTY] {
+        assert_eq!(approach_of(edition, plain), (4, 1));
+        assert_eq!(approach_of(edition, lane(plain)), (4, 2));
+        assert_eq!(approach_of(edition, improved), (1, 1));
+        assert_eq!(approach_of(edition, lane(improved)), (2, 2));
+        // Nothing else that is crossed has another level.
+        for (control, lanes, speed) in [(0, 0, 0), (2, 6, 25), (3, 6, 25), (4, 3, 26)] {
+            let crossing = Approach::crossing(control, lanes, speed);
+            assert_eq!(approach_of(edition, crossing), approach(crossing));
+        }
     }
 }
 
@@ -389,7 +396,7 @@ fn printed_inputs() -> (Vec<u8>, Vec<u8>) {
 #[test]
 fn program_levels() {
     let (refused, accepted) = printed_inputs();
-    let mut output = [9; twin::MAX_NETWORK];
+    let mut output = vec![9; twin::MAX_NETWORK];
     assert_eq!(read(&refused, &mut output), Err((1, 2)));
     assert_eq!(oracle::levels(&refused), "refused 1 2\n");
     assert!(output.iter().all(|&b| b == 9));

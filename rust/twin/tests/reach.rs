@@ -4,8 +4,9 @@ use oracle::{Net, Ways};
 use towns::draw::{self, Rng, Shape};
 use towns::edition::EDITIONS;
 use towns::lend::Guarded;
-use towns::town::{Segment, Town, block_town, end};
-use twin::{TOWN_NODES, TOWN_SEGMENTS};
+use towns::sizes::{COUNTY_NODES, COUNTY_SEGMENTS, most_feet, most_nodes};
+use towns::town::{COUNTY, Segment, Town, block_town, end};
+use twin::TOWN_SEGMENTS;
 
 /// What is lent to both calls, between guards.
 struct Room {
@@ -182,8 +183,13 @@ fn refusals() {
 
 #[test]
 fn no_segments() {
-    for nodes in [1, 2, TOWN_NODES as u16] {
-        let (net, nodes) = (Town::new(nodes).bytes(), usize::from(nodes));
+    let numbers = [1, 2, 1_000, 1_001, 8_000];
+    for (edition, nodes) in EDITIONS.iter().flat_map(|&e| numbers.map(|n| (e, n))) {
+        if usize::from(nodes) > most_nodes(edition) {
+            continue;
+        }
+        let net = Town::new(nodes).edition(edition).bytes();
+        let nodes = usize::from(nodes);
         for greatest in [0, 1, usize::MAX] {
             assert_eq!(map(&net, nodes - 1, 1, greatest), [(nodes - 1, 0)]);
         }
@@ -194,24 +200,47 @@ fn no_segments() {
     }
 }
 
-/// The greatest lengths of a town, listed and left out.
+/// A chain of all nodes, every street as long as the edition allows.
 #[test]
 fn far_nodes() {
-    let mut town = Town::new(TOWN_NODES as u16);
-    let last = town.nodes - 1;
-    for node in 0..last {
-        town.segments
-            .push(Segment::path(end(node, 0), end(node + 1, 4), 52_800));
+    for edition in EDITIONS {
+        let feet = most_feet(edition);
+        let mut town = Town::new(most_nodes(edition) as u16).edition(edition);
+        let last = town.nodes - 1;
+        for node in 0..last {
+            town.segments
+                .push(Segment::path(end(node, 0), end(node + 1, 4), feet));
+        }
+        farthest_of(&town.bytes(), last.into(), feet * u32::from(last), 1);
     }
-    let (net, most) = (town.bytes(), 52_800 * u32::from(last));
-    let last = usize::from(last);
-    let all = map(&net, 0, 1, most as usize);
+}
+
+/// The last node is reached by riding out and back, above 2 to the 31st feet.
+#[test]
+fn far_nodes_above_31_bits() {
+    let county = draw::town_of(COUNTY, Shape::Back, 5, COUNTY_SEGMENTS);
+    let (net, last) = (county.bytes(), COUNTY_NODES - 1);
+    let mut ways = Ways::over(Net::parse(&net).expect("a network"));
+    let feet = ways.route(0, last, 3).expect("no refusal");
+    let feet = feet.expect("a route");
+    assert!(feet > 1 << 31);
+    farthest_of(&net, last, feet, 3);
+    for greatest in [(1 << 31) - 1, 1 << 31, (1 << 31) + 1, u32::MAX as usize] {
+        let entries = map(&net, 0, 3, greatest);
+        let oracles = ways.reach_map(0, 3, greatest, 2 * COUNTY_NODES);
+        assert_eq!(Ok(entries), oracles, "{greatest}");
+    }
+}
+
+/// The last node is farther than all others: listed, left out, and nearest.
+fn farthest_of(net: &[u8], last: usize, feet: u32, tolerance: u8) {
+    let all = map(net, 0, tolerance, feet as usize);
     assert_eq!(all.len(), last + 1);
-    assert_eq!(all[last], (last, most));
-    assert_eq!(map(&net, 0, 1, most as usize - 1), all[..last]);
+    assert_eq!(all[last], (last, feet));
+    assert_eq!(map(net, 0, tolerance, feet as usize - 1), all[..last]);
     let mut marks = vec![0; last + 1];
     marks[last] = 1;
-    assert_eq!(nearest(&net, 0, 1, &marks), Some((last, most)));
+    assert_eq!(nearest(net, 0, tolerance, &marks), Some((last, feet)));
 }
 
 /// Holds maps and nearest nodes from one node to the oracle's; gives the
@@ -250,7 +279,10 @@ fn random_towns(seeds: std::ops::Range<u64>, segments: usize, starts: usize) -> 
     for seed in seeds {
         let shape = Shape::ALL[seed as usize % Shape::ALL.len()];
         let wanted = rng.range(segments / 2, segments);
-        let edition = Rng::new(seed).pick(&EDITIONS);
+        let edition = match segments {
+            COUNTY_SEGMENTS => COUNTY,
+            _ => Rng::new(seed).pick(&EDITIONS),
+        };
         let town = draw::town_of(edition, shape, seed, wanted);
         let (net, nodes) = (town.bytes(), usize::from(town.nodes));
         let mut ways = Ways::over(Net::parse(&net).expect("a network"));
@@ -270,7 +302,8 @@ fn random_towns_against_the_oracle() {
     for (seeds, segments, starts, entries) in [
         (0..1_300, 14, 2, 60_000),
         (20_000..20_065, 120, 2, 13_000),
-        (30_000..30_013, TOWN_SEGMENTS, 1, 6_000),
+        (30_000..30_014, TOWN_SEGMENTS, 1, 6_000),
+        (40_000..40_014, COUNTY_SEGMENTS, 1, 60_000),
     ] {
         let listed = random_towns(seeds, segments, starts);
         assert!(listed > entries, "{listed} entries");

@@ -7,8 +7,9 @@ use search::{least_stress, route};
 use towns::draw::{self, Rng, Shape, Spot, damage, damage_kept};
 use towns::edition::EDITIONS;
 use towns::lend::{Guarded, Lengths, Lent};
+use towns::sizes::{most_feet, most_nodes, segment_bytes};
 use towns::town::{Approach, Segment, Town, block_town, check, end, head, head_of, line, text_of};
-use towns::town::{NEWER, OLDER};
+use towns::town::{COUNTY, NEWER, OLDER};
 use twin::{Found, MAX_NETWORK, is_network, judge_movement, judge_segment, read, refused_line};
 use twin::{nearest, reach_map};
 
@@ -39,8 +40,11 @@ fn answer(text: &[u8], room: usize) -> Result<usize, (u8, usize)> {
     answer
 }
 
+/// An output that is longer than the texts of these tests need.
+const ROOM: usize = 4_000;
+
 fn full(text: &[u8]) -> Result<usize, (u8, usize)> {
-    answer(text, MAX_NETWORK)
+    answer(text, ROOM)
 }
 
 fn sealed(mut body: Vec<u8>) -> Vec<u8> {
@@ -82,6 +86,10 @@ fn empty_and_ends() {
 fn heads() {
     assert_eq!(full(&line(&head(1_000, 0))), Ok(7));
     assert_eq!(full(&line(&head_of(2, 1_000, 0))), Ok(7));
+    assert_eq!(full(&line(&head_of(3, 8_000, 0))), Ok(7));
+    let largest = line(&head_of(3, 8_000, 8_000));
+    assert_eq!(answer(&largest, MAX_NETWORK), Err((5, 2)));
+    assert_eq!(answer(&largest, MAX_NETWORK - 1), Err((7, 1)));
     for (frame, number) in [
         (head(0, 0), 4),
         (head(1_001, 0), 4),
@@ -91,6 +99,11 @@ fn heads() {
         (sealed(vec![1, 255, 0, 1, 0, 0]), 4),
         (sealed(vec![1, 2, 0, 0, 0, 0]), 4),
         (sealed(vec![1, 2, 0, 1, 3, 233]), 4),
+        (head_of(2, 1_001, 0), 4),
+        (head_of(3, 0, 0), 4),
+        (head_of(3, 8_001, 0), 4),
+        (head_of(3, 1, 8_001), 4),
+        (head_of(3, 8_000, 8_001), 4),
         (sealed(vec![2, 1, 0, 1, 0, 0]), 3),
         (sealed(vec![2, 9, 0, 0, 9, 9]), 3),
         (sealed(vec![1, 1, 0, 1, 0, 0, 0]), 3),
@@ -136,6 +149,41 @@ fn order_within_a_line() {
     assert_eq!(full(&text), Err((1, 3)));
 }
 
+/// A frame of the other width is 3: after 1 and 2, before 5, 4 and 6.
+#[test]
+fn widths_of_frames() {
+    for edition in EDITIONS {
+        let other = if edition == COUNTY { NEWER } else { COUNTY };
+        let good = path((0, 0), (1, 0));
+        let first = good.frame_of(edition);
+        for bad in [good, path((5, 0), (1, 9)), path((0, 1), (1, 1))] {
+            let wrong = bad.frame_of(other);
+            assert_eq!(wrong.len(), segment_bytes(other));
+            for segments in [1, 2] {
+                let head = head_of(edition, 2, segments);
+                let mut text = lines(&[&head, &first, &wrong]);
+                assert_eq!(full(&text), Err((3, 3)));
+                assert!(!is_network(&[&head[..], &first, &wrong].concat()));
+                let check = text.len() - 2;
+                text[check] = if text[check] == b'0' { b'1' } else { b'0' };
+                assert_eq!(full(&text), Err((2, 3)));
+                text[check] = b' ';
+                assert_eq!(full(&text), Err((1, 3)));
+            }
+        }
+        // Frames of the other width alone, and as many bytes as there should be.
+        let town = Town::new(2).edition(edition).with(good);
+        assert_eq!(full(&town.text()), Ok(7 + segment_bytes(edition)));
+        let head = town.head();
+        let mut frame = good.frame_of(other);
+        assert!(!is_network(&[&head[..], &frame].concat()));
+        frame.resize(segment_bytes(edition), 0);
+        draw::seal(&mut frame);
+        let answer = full(&lines(&[&head, &frame]));
+        assert_eq!(answer.is_ok(), is_network(&[&head[..], &frame].concat()));
+    }
+}
+
 /// The new values are 4 under edition 01, after 5 and before 6, at the line that
 /// has them.
 #[test]
@@ -145,19 +193,19 @@ fn new_values_under_edition_01() {
     let signal = path((0, 0), (1, 0)).at_a(Approach::signal(true));
     for new in [marked, signal] {
         let town = Town::new(2).with(good).with(new);
-        for (edition, answer) in [(OLDER, Err((4, 3))), (NEWER, Ok(67))] {
+        for (edition, answer) in [(OLDER, Err((4, 3))), (NEWER, Ok(67)), (COUNTY, Ok(71))] {
             let town = town.clone().edition(edition);
             assert_eq!(full(&town.text()), answer);
             assert_eq!(is_network(&town.bytes()), answer.is_ok());
         }
         let twice = Segment { a: good.a, ..new };
-        for (edition, number) in [(OLDER, 4), (NEWER, 6)] {
-            let frames = [head_of(edition, 2, 2), good.frame(), twice.frame()];
-            assert_eq!(full(&text_of(&frames)), Err((number, 3)));
-            let frames = [head_of(edition, 2, 1), good.frame(), twice.frame()];
+        for (edition, number) in [(OLDER, 4), (NEWER, 6), (COUNTY, 6)] {
+            let [one, other] = [good, twice].map(|segment| segment.frame_of(edition));
+            let frames = [head_of(edition, 2, 1), one.clone(), other.clone()];
             assert_eq!(full(&text_of(&frames)), Err((5, 3)));
-            let kept = [head_of(edition, 2, 2), good.frame(), twice.frame()].concat();
-            assert!(!is_network(&kept));
+            let frames = [head_of(edition, 2, 2), one, other];
+            assert_eq!(full(&text_of(&frames)), Err((number, 3)));
+            assert!(!is_network(&frames.concat()));
         }
     }
 }
@@ -252,7 +300,8 @@ fn numbers_of_segments() {
     assert_eq!(full(&lines(&[&head(2, 0), &one])), Err((5, 2)));
     assert_eq!(full(&lines(&[&head(2, 1), &one, &two])), Err((5, 3)));
     assert_eq!(full(&lines(&[&head(2, 3), &one, &two])), Err((5, 4)));
-    assert_eq!(full(&lines(&[&head(2, 1_000)])), Err((5, 2)));
+    let most = lines(&[&head(2, 1_000)]);
+    assert_eq!(answer(&most, MAX_NETWORK), Err((5, 2)));
 }
 
 /// A segment with a crossing and a turn lane at B, nothing at A.
@@ -267,12 +316,13 @@ fn good_segment() -> Segment {
 fn accepted(edition: u8, segment: Segment) -> bool {
     let town = Town::new(2).edition(edition).with(segment);
     let answer = full(&town.text());
-    assert!(matches!(answer, Ok(37) | Err((4, 2))), "{segment:?}");
+    let size = 7 + segment_bytes(edition);
+    assert!([Ok(size), Err((4, 2))].contains(&answer), "{segment:?}");
     assert_eq!(is_network(&town.bytes()), answer.is_ok());
     answer.is_ok()
 }
 
-/// Sets a field to each number, and asks which are accepted, in both editions.
+/// Sets a field to each number, and asks which are accepted, in every edition.
 fn field<T: Copy + std::fmt::Debug>(
     numbers: impl IntoIterator<Item = T> + Clone,
     set: impl Fn(&mut Segment, T),
@@ -308,18 +358,29 @@ fn fields_of_the_ends() {
 }
 
 #[test]
+fn lengths() {
+    for edition in EDITIONS {
+        let mut lengths = vec![0, 1, 255, 256, 52_800, 52_801, 65_535];
+        if edition == COUNTY {
+            lengths.extend([65_536, 65_537, 263_999, 264_000, 264_001, 264_001 + 65_536]);
+            lengths.extend([1 << 24, 1 << 24 | 1, 500 << 16, 1 << 31, u32::MAX]);
+        }
+        let within = |n| (1..=most_feet(edition)).contains(&n);
+        field_of(edition, lengths, |s, n| s.length = n, within);
+    }
+}
+
+#[test]
 fn fields_of_the_street() {
     let every = 0..=255u8;
-    let lengths = [0, 1, 255, 256, 52_800, 52_801, 65_535];
-    field(lengths, |s, n| s.length = n, |n| (1..=52_800).contains(&n));
     // With reach 30, forms 0 and 3 are against the rules.
     field(every.clone(), |s, n| s.form = n, |n| n == 1 || n == 2);
     field(every.clone(), |s, n| s.ways = n, |n| (1..=3).contains(&n));
     field(every.clone(), |s, n| s.lanes = n, |n| (1..=12).contains(&n));
     field(every.clone(), |s, n| s.speed = n, |n| (5..=85).contains(&n));
     field(every.clone(), |s, n| s.reach = n, |n| n <= 60);
-    // Edition 02 has a mark more, on a street of any form but a path.
-    for (edition, most) in [(OLDER, 15), (NEWER, 31)] {
+    // Later editions have a mark more, on a street of any form but a path.
+    for (edition, most) in [(OLDER, 15), (NEWER, 31), (COUNTY, 31)] {
         field_of(edition, every.clone(), |s, n| s.marks = n, |n| n <= most);
         let mixed = |s: &mut Segment, n| *s = s.street(0, 2, 25, 0, n);
         field_of(edition, every.clone(), mixed, |n| n <= most);
@@ -371,7 +432,7 @@ fn fields_of_the_approaches() {
     );
     // The approach at A crosses nothing and has no turn lane.
     let zero = |n| n == 0;
-    for (edition, signals) in [(OLDER, &[1][..]), (NEWER, &[1, 5])] {
+    for (edition, signals) in [(OLDER, &[1][..]), (NEWER, &[1, 5]), (COUNTY, &[1, 5])] {
         let crosses_nothing = |n| n == 0 || signals.contains(&n);
         let every = every.clone();
         field_of(edition, every, |s, n| s.at_a.control = n, crosses_nothing);
@@ -388,8 +449,10 @@ fn fields_of_the_approaches() {
 fn fields_of_signals() {
     for (control, lanes, speed) in [(1, 0, 0), (5, 0, 0), (5, 1, 0), (5, 0, 5), (5, 2, 25)] {
         let crossed = Approach::crossing(control, lanes, speed);
-        let answer = accepted(NEWER, good_segment().at_b(crossed));
-        assert_eq!(answer, lanes + speed == 0, "{crossed:?}");
+        for edition in [NEWER, COUNTY] {
+            let answer = accepted(edition, good_segment().at_b(crossed));
+            assert_eq!(answer, lanes + speed == 0, "{crossed:?}");
+        }
         let answer = accepted(OLDER, good_segment().at_a(crossed));
         assert_eq!(answer, control == 1, "{crossed:?}");
     }
@@ -427,7 +490,7 @@ fn changed_texts() {
         for _ in 0..rng.range(1, 3) {
             draw::change(&mut rng, &mut text);
         }
-        let room = rng.pick(&[MAX_NETWORK, MAX_NETWORK, 7, 67, 100, 0]);
+        let room = rng.pick(&[ROOM, ROOM, 7, 67, 71, 100, 0]);
         let _ = answer(&text, room);
     }
 }
@@ -460,6 +523,40 @@ fn changed_fields() {
         [0, 3, 4, 5, 6].iter().all(|&n: &usize| answers[n] > 50),
         "{answers:?}"
     );
+}
+
+/// Damage to the text of a county: at its first, a middle and its last line.
+#[test]
+fn damaged_counties() {
+    let mut rng = Rng::new(10);
+    let mut last = 0;
+    for (seed, segments) in [(1, 8_000), (2, 1_001), (3, 4_000)] {
+        let county = draw::town_of(COUNTY, Shape::Ring, seed, segments);
+        let size = county.bytes().len();
+        assert_eq!(answer(&county.text(), size), Ok(size));
+        for number in (1..=7).flat_map(|number| [number; 4]) {
+            for spot in Spot::ALL {
+                let Some(d) = damage(&mut rng, &county, number, spot) else {
+                    continue;
+                };
+                assert_eq!(answer(&d.text, d.output), Err(d.refusal), "{}", d.what);
+                last = last.max(d.refusal.1);
+            }
+        }
+    }
+    assert_eq!(last, 8_002);
+    // As many nodes as there may be, and a node more in a frame.
+    for edition in EDITIONS {
+        let most = most_nodes(edition) as u16;
+        for (node, accepted) in [(most - 1, true), (most, false)] {
+            let town = Town::new(most).edition(edition);
+            let town = town.with(path((0, 0), (node, 7)));
+            let size = 7 + segment_bytes(edition);
+            let told = if accepted { Ok(size) } else { Err((4, 2)) };
+            assert_eq!(full(&town.text()), told);
+            assert_eq!(is_network(&town.bytes()), accepted);
+        }
+    }
 }
 
 #[test]

@@ -7,9 +7,10 @@ use search::{least_stress, route};
 use towns::draw::{self, Rng, Shape};
 use towns::edition::EDITIONS;
 use towns::lend::{Lengths, Lent};
-use towns::sizes::{MOST_BYTES, MOST_NODES, MOST_SEGMENTS};
-use towns::town::{Approach, Segment, Town, block_town, end};
-use twin::{Found, MAX_NETWORK, TOWN_NODES, TOWN_SEGMENTS};
+use towns::sizes::{COUNTY_NODES, COUNTY_SEGMENTS, MOST_BYTES, MOST_NODES, MOST_SEGMENTS};
+use towns::sizes::{most_feet, most_segments, segment_bytes};
+use towns::town::{Approach, COUNTY, NEWER, Segment, Town, block_town, end};
+use twin::{Found, MAX_NETWORK, MAX_NODES, MAX_SEGMENTS, TOWN_NODES, TOWN_SEGMENTS};
 use twin::{is_network, judge_movement, judge_segment};
 
 /// A town under test: its bytes, what the oracle makes of them, and all of its
@@ -131,7 +132,7 @@ fn small_towns() {
 /// The nodes at which the segments of a network end.
 fn ends(net: &[u8]) -> Vec<usize> {
     net[7..]
-        .chunks(30)
+        .chunks(segment_bytes(net[1]))
         .flat_map(|f| [[f[1], f[2]], [f[4], f[5]]])
         .map(|pair| usize::from(u16::from_be_bytes(pair)))
         .collect()
@@ -166,6 +167,52 @@ fn full_towns() {
     }
 }
 
+/// Counties of every shape, and of the sizes next to a town's.
+#[test]
+fn counties() {
+    let mut rng = Rng::new(5);
+    let mut ridden = 0;
+    for (i, shape) in Shape::ALL.into_iter().enumerate() {
+        for segments in [1_001, 3_000, COUNTY_SEGMENTS] {
+            let county = draw::town_of(COUNTY, shape, 40_000 + i as u64, segments);
+            let subject = Subject::new(county.bytes());
+            let nodes = subject.oracle.nodes();
+            let mut goals: Vec<usize> = (0..12).map(|_| rng.below(nodes)).collect();
+            goals.push(nodes - 1);
+            for from in [0, rng.below(nodes)] {
+                ridden += subject.ways_from(&mut rng, from, &goals);
+            }
+        }
+    }
+    assert!(ridden > 300, "{ridden}");
+}
+
+/// A town of edition 03 has the routes that it has in edition 02.
+#[test]
+fn a_town_in_edition_03() {
+    let mut rng = Rng::new(6);
+    for seed in 0..260 {
+        let shape = Shape::ALL[seed as usize % Shape::ALL.len()];
+        let town = draw::town_of(NEWER, shape, seed, rng.range(1, 40));
+        let net = town.bytes();
+        let county = town.clone().edition(COUNTY).bytes();
+        let (nodes, runs) = (usize::from(town.nodes), 2 * town.segments.len());
+        for _ in 0..10 {
+            let (from, to) = (rng.below(nodes), rng.below(nodes));
+            for tolerance in 1..=4 {
+                let (one, other) = (
+                    go(&net, from, to, tolerance),
+                    go(&county, from, to, tolerance),
+                );
+                assert_eq!(one, other);
+            }
+            let (p, q) = (rng.below(runs + 1), rng.below(runs + 1));
+            assert_eq!(judge_movement(&net, p, q), judge_movement(&county, p, q));
+            assert_eq!(judge_segment(&net, p / 2), judge_segment(&county, p / 2));
+        }
+    }
+}
+
 /// Every segment and every pair of runs of small towns.
 #[test]
 fn judgements() {
@@ -190,26 +237,25 @@ fn judgements() {
     assert!(seen.iter().all(|&n| n > 300), "{seen:?}");
 }
 
-/// What is drawn is a network, as large as a town may be.
+/// What is drawn is a network, as large as a town or a county may be.
 #[test]
 fn drawn_towns() {
+    assert_eq!([MOST_NODES, MOST_SEGMENTS], [TOWN_NODES, TOWN_SEGMENTS]);
     assert_eq!(
-        [MOST_NODES, MOST_SEGMENTS, MOST_BYTES],
-        [TOWN_NODES, TOWN_SEGMENTS, MAX_NETWORK]
+        [COUNTY_NODES, COUNTY_SEGMENTS, MOST_BYTES],
+        [MAX_NODES, MAX_SEGMENTS, MAX_NETWORK]
     );
-    let most = TOWN_SEGMENTS;
-    for shape in Shape::ALL {
+    for (shape, edition) in Shape::ALL.iter().flat_map(|&s| EDITIONS.map(|e| (s, e))) {
+        let most = most_segments(edition);
         for segments in [0, 1, 2, 3, 4, 10, 100, most - 1, most, 5 * most] {
-            for edition in EDITIONS {
-                let town = draw::town_of(edition, shape, 7, segments);
-                assert!(is_network(&town.bytes()), "{shape:?} {segments}");
-            }
+            let town = draw::town_of(edition, shape, 7, segments);
+            assert!(is_network(&town.bytes()), "{shape:?} {segments}");
         }
     }
 }
 
 fn go(net: &[u8], from: usize, to: usize, tolerance: u8) -> Option<(Found, Vec<u16>)> {
-    let mut lent = Lent::exact(2 * (net.len() - 7) / 30);
+    let mut lent = Lent::exact(2 * (net.len() - 7) / segment_bytes(net[1]));
     let answer = route(&mut lent, net, from, to, tolerance);
     let found = answer.expect("no refusal")?;
     Some((found, lent.runs(found.count).to_vec()))
@@ -318,27 +364,60 @@ fn label_for_each_run() {
     );
 }
 
-/// Greatest length: every run once, 52,800 feet each.
+/// A chain of all nodes, every street as long as the edition allows.
+#[test]
+fn longest_chain() {
+    for edition in EDITIONS {
+        let feet = most_feet(edition);
+        let mut town = Town::new(most_segments(edition) as u16).edition(edition);
+        let last = town.nodes - 1;
+        for node in 0..last {
+            town.segments
+                .push(Segment::path(end(node, 0), end(node + 1, 4), feet));
+        }
+        let (found, list) = go(&town.bytes(), 0, last.into(), 1).unwrap();
+        assert_eq!(
+            found,
+            Found {
+                count: last.into(),
+                length: u32::from(last) * feet,
+                level: 1
+            }
+        );
+        assert!(
+            list.iter()
+                .enumerate()
+                .all(|(i, &run)| usize::from(run) == 2 * i)
+        );
+    }
+}
+
+/// The chain out to a loop and back again, above 2 to the 31st feet: nearly every
+/// run is one of the route's. Its length is all that 32 bits must hold.
 #[test]
 fn longest_route() {
-    let mut town = Town::new(TOWN_NODES as u16);
-    let last = town.nodes - 1;
-    for node in 0..last {
-        town.segments
-            .push(Segment::path(end(node, 0), end(node + 1, 4), 52_800));
+    const MOST: u32 = 264_000;
+    let mut county = draw::town_of(COUNTY, Shape::Back, 1, COUNTY_SEGMENTS);
+    for street in &mut county.segments {
+        street.length = MOST;
     }
-    let (found, list) = go(&town.bytes(), 0, last.into(), 1).unwrap();
-    assert_eq!(
-        found,
-        Found {
-            count: last.into(),
-            length: u32::from(last) * 52_800,
-            level: 1
-        }
-    );
-    assert!(
-        list.iter()
-            .enumerate()
-            .all(|(i, &run)| usize::from(run) == 2 * i)
-    );
+    let (net, last) = (county.bytes(), COUNTY_NODES - 1);
+    for tolerance in 1..=3 {
+        let (found, list) = go(&net, 0, last, tolerance).expect("a route");
+        let count = 2 * COUNTY_SEGMENTS - 3;
+        let length = count as u32 * MOST;
+        let level = 1;
+        assert_eq!(
+            found,
+            Found {
+                count,
+                length,
+                level
+            }
+        );
+        assert_eq!(list.len(), count);
+        assert!(length > 1 << 31 && length < 16_000 * MOST);
+    }
+    let (found, _) = go(&net, 0, last, 4).expect("a route");
+    assert_eq!((found.count, found.length, found.level), (2, 2 * MOST, 4));
 }

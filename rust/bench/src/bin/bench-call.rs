@@ -6,8 +6,9 @@
 //! route2 route3 route4 least route-none map nearest; those with `-last` take
 //! the town's text with a wrong check in its last line, and `route-none` is
 //! asked for a node more, which no street leads to. SHAPE is `mixed`, the
-//! benchmark's grid, `mixed-02`, the same town of edition 02, or a shape of
-//! town-gen.
+//! benchmark's grid, `mixed-02`, the same town of edition 02, `mixed-03`, the same
+//! of edition 03, which may have up to 8,000 segments, `county`, the benchmark's
+//! grid of a county, which may too, or a shape of town-gen.
 
 use bench::clock::microseconds;
 use bench::{Call, Side, Subject};
@@ -15,7 +16,7 @@ use std::process::ExitCode;
 use towns::Town;
 use towns::draw::{self, Shape};
 use towns::program::{self, number};
-use towns::town::NEWER;
+use towns::town::{COUNTY, NEWER};
 
 /// Where the towns and questions come from, as in the benchmark.
 const SEED: u64 = 11;
@@ -23,7 +24,9 @@ const SEED: u64 = 11;
 fn town(shape: &str, segments: usize) -> Option<Town> {
     match shape {
         "mixed" => Some(draw::mixed_grid(SEED, segments)),
-        "mixed-02" => Some(draw::mixed_grid(SEED, segments).edition(NEWER)),
+        "mixed-02" => Some(draw::mixed_grid_of(NEWER, SEED, segments)),
+        "mixed-03" => Some(draw::mixed_grid_of(COUNTY, SEED, segments)),
+        "county" => Some(draw::county_grid(SEED, segments)),
         _ => Shape::from_name(shape).map(|shape| draw::town(shape, SEED, segments)),
     }
 }

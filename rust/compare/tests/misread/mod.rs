@@ -1,22 +1,27 @@
 //! Networks and texts as a program takes them that is wrong about a note of
 //! document 02: with other fields, which it judges as if they stood there.
 
+mod county;
+
 use crate::{Fault, Faulty};
 use compare::calls::{Calls, Twin};
 use splicereel::ffi::Told;
 use towns::draw;
-use towns::sizes::{HEAD, SEGMENT};
+use towns::sizes::{HEAD, length_bytes, segment_bytes};
 use towns::town::{CENTRELINE, IMPROVED_SIGNAL, NEWER, OLDER, RESIDENTIAL, SIGNAL, TURN_LANE};
 use towns::town::{head_of, text_of};
 
-/// Places in a segment frame.
-const FORM: usize = 9;
-const WAYS: usize = 10;
-const LANES: usize = 11;
-const SPEED: usize = 12;
-const REACH: usize = 13;
-const MARKS: usize = 14;
-const CONTROLS: [usize; 2] = [15, 22];
+/// The place of the length in a segment frame.
+const LENGTH: usize = 7;
+
+/// Places after the length, where a street begins that all editions have alike.
+const FORM: usize = 0;
+const WAYS: usize = 1;
+const LANES: usize = 2;
+const SPEED: usize = 3;
+const REACH: usize = 4;
+const MARKS: usize = 5;
+const CONTROLS: [usize; 2] = [6, 13];
 
 /// Whether a frame's check is right.
 fn is_whole(frame: &[u8]) -> bool {
@@ -24,18 +29,23 @@ fn is_whole(frame: &[u8]) -> bool {
 }
 
 /// Whether a street has a bike lane.
-fn has_lane(frame: &[u8]) -> bool {
-    [1, 2].contains(&frame[FORM])
+fn has_lane(street: &[u8]) -> bool {
+    [1, 2].contains(&street[FORM])
 }
 
-/// Whether a street's reach counts as wider in edition 02.
-fn is_widened(frame: &[u8]) -> bool {
-    has_lane(frame) && frame[LANES] == 1 && frame[WAYS] == 3 && frame[MARKS] & TURN_LANE != 0
+/// Whether a street's reach counts as wider by the newer rules.
+fn is_widened(street: &[u8]) -> bool {
+    has_lane(street) && street[LANES] == 1 && street[WAYS] == 3 && street[MARKS] & TURN_LANE != 0
 }
 
 /// More half feet, as many as a frame may have.
-fn widen(frame: &mut [u8], more: u8) {
-    frame[REACH] = frame[REACH].saturating_add(more).min(60);
+fn widen(street: &mut [u8], more: u8) {
+    street[REACH] = street[REACH].saturating_add(more).min(60);
+}
+
+/// The place after the length in a frame of an edition.
+fn street_at(edition: u8) -> usize {
+    LENGTH + length_bytes(edition)
 }
 
 impl Faulty {
@@ -55,20 +65,20 @@ impl Faulty {
         let Some(frames) = frames.filter(|_| read) else {
             return text.to_vec();
         };
-        let sizes = [HEAD].into_iter().chain(std::iter::repeat(SEGMENT));
-        if frames.is_empty()
-            || frames
-                .iter()
-                .zip(sizes)
-                .any(|(frame, size)| frame.len() != size)
-        {
+        let Some((head, rest)) = frames.split_first() else {
+            return text.to_vec();
+        };
+        // Frames of one width, whichever it is.
+        let width = rest.first().map_or(0, Vec::len);
+        if head.len() != HEAD || rest.iter().any(|frame| frame.len() != width) {
             return text.to_vec();
         }
         let net = self.retold(&frames.concat());
         let (head, rest) = net.split_at(HEAD);
+        let width = rest.len() / frames.len().saturating_sub(1).max(1);
         let frames: Vec<Vec<u8>> = [head]
             .into_iter()
-            .chain(rest.chunks(SEGMENT))
+            .chain(rest.chunks(width.max(1)))
             .map(Vec::from)
             .collect();
         text_of(&frames)
@@ -82,12 +92,13 @@ impl Faulty {
             Fault::ReadsNo02,
         ]
         .contains(&self.0)
+            || self.reads_counties_wrongly()
     }
 
     /// A network with other fields, each of its frames with a right check.
     fn retold(&self, net: &[u8]) -> Vec<u8> {
         let is_network = twin::is_network(net);
-        let mut net = net.to_vec();
+        let mut net = self.of_other_size(net);
         let Some((head, frames)) = net.split_at_mut_checked(HEAD) else {
             return net;
         };
@@ -101,13 +112,16 @@ impl Faulty {
             draw::seal(head);
         }
         for frame in frames
-            .chunks_exact_mut(SEGMENT)
+            .chunks_exact_mut(segment_bytes(edition))
             .filter(|frame| is_whole(frame))
         {
-            self.misread_street(frame);
+            self.misread_length(frame, edition);
+            let end = frame.len() - 1;
+            let street = &mut frame[street_at(edition)..end];
+            self.misread_street(street);
             match edition {
-                OLDER => self.misread_older(frame),
-                _ => self.misread_newer(frame),
+                OLDER => self.misread_older(street),
+                _ => self.misread_newer(street),
             }
             draw::seal(frame);
         }
@@ -116,79 +130,89 @@ impl Faulty {
 
     /// Note 2: streets beside parking with other speeds or marks, which by
     /// document 01 have the same levels.
-    fn misread_street(&self, frame: &mut [u8]) {
-        if frame[FORM] != 1 {
+    fn misread_street(&self, street: &mut [u8]) {
+        if street[FORM] != 1 {
             return;
         }
-        let (speed, marks) = (frame[SPEED], frame[MARKS]);
+        let (speed, marks) = (street[SPEED], street[MARKS]);
         match self.0 {
             Fault::NoFootnote => {
-                (frame[SPEED], frame[MARKS]) = (speed.max(25), marks & !RESIDENTIAL);
+                (street[SPEED], street[MARKS]) = (speed.max(25), marks & !RESIDENTIAL);
             }
-            Fault::QuietAt25 if speed == 25 => frame[SPEED] = 24,
+            Fault::QuietAt25 if speed == 25 => street[SPEED] = 24,
             Fault::QuietByCentreline => {
-                frame[MARKS] = marks & !RESIDENTIAL | (marks & CENTRELINE) << 1;
+                street[MARKS] = marks & !RESIDENTIAL | (marks & CENTRELINE) << 1;
             }
             _ => {}
         }
     }
 
     /// Note 5: what edition 01 has not.
-    fn misread_older(&self, frame: &mut [u8]) {
+    fn misread_older(&self, street: &mut [u8]) {
         match self.0 {
-            Fault::MarkUnder01 if frame[FORM] != 3 && frame[MARKS] < 32 => {
-                frame[MARKS] &= !TURN_LANE;
+            Fault::MarkUnder01 if street[FORM] != 3 && street[MARKS] < 32 => {
+                street[MARKS] &= !TURN_LANE;
             }
             Fault::ImprovedSignalUnder01 | Fault::ReadsImprovedSignalUnder01 => {
-                exchange(frame, IMPROVED_SIGNAL, SIGNAL);
+                exchange(street, IMPROVED_SIGNAL, SIGNAL);
             }
             _ => {}
         }
     }
 
-    /// Note 5: what edition 02 makes of its streets and signals.
-    fn misread_newer(&self, frame: &mut [u8]) {
-        let widened = is_widened(frame);
-        let lane = has_lane(frame);
+    /// Note 5: what the newer rules make of streets and signals.
+    fn misread_newer(&self, street: &mut [u8]) {
+        let widened = is_widened(street);
+        let lane = has_lane(street);
         match self.0 {
             Fault::WidenedOneWay if lane => {
-                if frame[WAYS] == 1 && frame[LANES] == 1 && frame[MARKS] & TURN_LANE != 0 {
-                    widen(frame, 4);
-                } else if frame[WAYS] == 3 {
-                    frame[MARKS] &= !TURN_LANE;
+                if street[WAYS] == 1 && street[LANES] == 1 && street[MARKS] & TURN_LANE != 0 {
+                    widen(street, 4);
+                } else if street[WAYS] == 3 {
+                    street[MARKS] &= !TURN_LANE;
                 }
             }
-            Fault::WidenedByTwo if widened => frame[REACH] = frame[REACH].saturating_sub(2),
-            Fault::WidenedByFive if widened => widen(frame, 1),
-            Fault::WidenedWithoutMark if lane => frame[MARKS] |= TURN_LANE,
-            Fault::NeverWidened if lane => frame[MARKS] &= !TURN_LANE,
-            Fault::SignalAtOne => exchange(frame, SIGNAL, IMPROVED_SIGNAL),
-            Fault::ImprovedSignalAtFour => exchange(frame, IMPROVED_SIGNAL, SIGNAL),
-            Fault::MarksTo63 | Fault::ReadsMarksTo63 if frame[FORM] != 3 && frame[MARKS] < 64 => {
-                frame[MARKS] &= 31;
+            Fault::WidenedByTwo if widened => street[REACH] = street[REACH].saturating_sub(2),
+            Fault::WidenedByFive if widened => widen(street, 1),
+            Fault::WidenedWithoutMark if lane => street[MARKS] |= TURN_LANE,
+            Fault::NeverWidened if lane => street[MARKS] &= !TURN_LANE,
+            Fault::SignalAtOne => exchange(street, SIGNAL, IMPROVED_SIGNAL),
+            Fault::ImprovedSignalAtFour => exchange(street, IMPROVED_SIGNAL, SIGNAL),
+            Fault::MarksTo63 | Fault::ReadsMarksTo63 if street[FORM] != 3 && street[MARKS] < 64 => {
+                street[MARKS] &= 31;
             }
-            Fault::ControlSix => exchange(frame, 6, IMPROVED_SIGNAL),
+            Fault::ControlSix => exchange(street, 6, IMPROVED_SIGNAL),
             _ => {}
         }
     }
 
-    /// What a judgement of a segment of edition 02 tells, by a program that is
-    /// wrong about the mixed level.
+    /// What a judgement of a segment by the newer rules tells, by a program that
+    /// is wrong about the mixed level.
     pub fn misjudge(&self, net: &[u8], segment: usize, told: &mut Told) {
-        let frame = net[HEAD..].chunks_exact(SEGMENT).nth(segment);
-        let Some(frame) = frame.filter(|frame| net[1] == NEWER && has_lane(frame)) else {
+        let edition = net[1];
+        let frame = net[HEAD..]
+            .chunks_exact(segment_bytes(edition))
+            .nth(segment);
+        let Some(frame) = frame.filter(|_| edition != OLDER) else {
             return;
         };
-        let ways = frame[WAYS];
+        let street = &frame[street_at(edition)..];
+        if self.0 == Fault::OlderLevelsUnder03 && segment_bytes(edition) == 32 {
+            told[..2].copy_from_slice(&unwidened_level(OLDER, street));
+        }
+        if !has_lane(street) {
+            return;
+        }
+        let ways = street[WAYS];
         match self.0 {
-            Fault::MixedWhereEqual if level(NEWER, frame, as_mixed)[0] == told[0] => told[1] = 5,
+            Fault::MixedWhereEqual if level(NEWER, street, as_mixed)[0] == told[0] => told[1] = 5,
             Fault::MixedWithoutItsMeasure if told[1] == 5 => told[1] = 1,
-            Fault::MixedNever => told[..2].copy_from_slice(&level(OLDER, frame, |_| ())),
+            Fault::MixedNever => told[..2].copy_from_slice(&level(OLDER, street, |_| ())),
             Fault::MixedAtOnceItsLanes if ways == 3 => {
-                told[..2].copy_from_slice(&level(NEWER, frame, |street| street[WAYS] = 1));
+                told[..2].copy_from_slice(&level(NEWER, street, |street| street[WAYS] = 1));
             }
             Fault::MixedAtTwiceItsLanes if ways != 3 => {
-                told[..2].copy_from_slice(&level(NEWER, frame, |street| street[WAYS] = 3));
+                told[..2].copy_from_slice(&level(NEWER, street, |street| street[WAYS] = 3));
             }
             _ => {}
         }
@@ -196,10 +220,10 @@ impl Faulty {
 }
 
 /// Puts one control for another at both ends.
-fn exchange(frame: &mut [u8], old: u8, new: u8) {
+fn exchange(street: &mut [u8], old: u8, new: u8) {
     for at in CONTROLS {
-        if frame[at] == old {
-            frame[at] = new;
+        if street[at] == old {
+            street[at] = new;
         }
     }
 }
@@ -221,18 +245,26 @@ fn frame(line: &[u8]) -> Option<Vec<u8>> {
         .collect()
 }
 
-/// Level and measure of a street of edition 02 alone, changed so, by the rules
-/// of an edition; what widens its reach stays counted.
-fn level(edition: u8, frame: &[u8], change: impl Fn(&mut [u8])) -> [u32; 2] {
-    let mut street = frame.to_vec();
-    if is_widened(frame) {
-        widen(&mut street, 4);
+/// Level and measure of a street of a newer edition alone, changed so, by the
+/// rules of an edition; what widens its reach stays counted.
+fn level(edition: u8, street: &[u8], change: impl Fn(&mut [u8])) -> [u32; 2] {
+    let mut changed = street.to_vec();
+    if is_widened(street) {
+        widen(&mut changed, 4);
     }
+    change(&mut changed);
+    unwidened_level(edition, &changed)
+}
+
+/// The same of the street as it is, without the values that edition 01 has not;
+/// as short as may be, and at one node.
+fn unwidened_level(edition: u8, street: &[u8]) -> [u32; 2] {
+    let mut street = street.to_vec();
     street[MARKS] &= !TURN_LANE;
     exchange(&mut street, IMPROVED_SIGNAL, SIGNAL);
-    change(&mut street);
-    draw::seal(&mut street);
-    let net = [head_of(edition, 1_000, 1), street].concat();
+    let mut frame = [&[2, 0, 0, 0, 0, 0, 1, 0, 1], &street[..]].concat();
+    draw::seal(&mut frame);
+    let net = [head_of(edition, 1, 1), frame].concat();
     let mut told = Told::default();
     Twin.judge_segment(&net, 0, &mut told);
     [told[0], told[1]]

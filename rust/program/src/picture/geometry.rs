@@ -135,8 +135,11 @@ impl Rect {
             }
             let (one, other) = ((low - start) / step, (high - start) / step);
             part = (part.0.max(one.min(other)), part.1.min(one.max(other)));
+            if part.0 >= part.1 {
+                return 0.0;
+            }
         }
-        (part.1 - part.0).max(0.0) * (to - from).length()
+        (part.1 - part.0) * (to - from).length()
     }
 }
 

@@ -1,5 +1,6 @@
 //! Where the nodes' names stand: beside their nodes, over as little as may be.
 
+use super::cells::Cells;
 use super::geometry::{Line, Point, Rect, at};
 use super::map::Map;
 use super::scene::Scene;
@@ -10,7 +11,8 @@ pub const LEADING: f64 = 12.5;
 /// The most characters of a name, and of a line of it where its words allow.
 const MOST: usize = 60;
 const WIDE: usize = 15;
-/// A name over so many streets is covered anyhow: no more are looked at.
+/// A name over so many streets, nodes or names is covered anyhow: no more are
+/// looked at.
 const MANY: usize = 20;
 /// From a node's middle to its name: near, or farther off where that covers
 /// less.
@@ -107,52 +109,85 @@ fn beside(node: Point, lines: &[String], (right, below): (f64, f64), apart: f64)
 }
 
 /// What names should not cover.
-struct Covered {
-    names: Vec<Rect>,
-    nodes: Vec<Rect>,
-    streets: Vec<(Rect, Line)>,
+struct Covered<'l> {
+    names: Cells,
+    nodes: Cells,
+    streets: Cells,
+    /// The streets' lines, by the numbers of their rectangles.
+    lines: Vec<&'l Line>,
 }
 
-impl Covered {
+impl<'l> Covered<'l> {
+    fn new(places: &[Point], lines: Vec<&'l Line>) -> Covered<'l> {
+        let (mut nodes, mut streets) = (Cells::default(), Cells::default());
+        for place in places {
+            nodes.add(Rect::of(*place).wider(5.0));
+        }
+        for line in &lines {
+            streets.add(Rect::round(line.points.iter().copied()).wider(1.0));
+        }
+        Covered {
+            names: Cells::default(),
+            nodes,
+            streets,
+            lines,
+        }
+    }
+
     /// How much a name there would cover: another name and a node are worse
-    /// than a bit of a street.
-    fn by(&self, frame: Rect) -> f64 {
-        let meeting =
-            |others: &[Rect]| others.iter().filter(|other| frame.meets(**other)).count() as f64;
-        let round = frame.wider(3.0);
-        let near = self
-            .streets
-            .iter()
-            .filter(|(whole, _)| whole.wider(1.0).meets(round))
-            .take(MANY);
-        let street = |line: &Line| {
-            let length: f64 = line.pieces().map(|(from, to)| round.holds(from, to)).sum();
+    /// than a bit of a street. Streets are not looked at where that is no less
+    /// than `least` without them.
+    fn by(&self, frame: Rect, least: f64) -> f64 {
+        let meeting = |others: &Cells| others.meeting(frame).take(MANY).count();
+        let names = meeting(&self.names);
+        if names == MANY {
+            return f64::INFINITY;
+        }
+        let covered = 6.0 * names as f64 + 4.0 * meeting(&self.nodes) as f64;
+        match covered < least {
+            true => covered + self.streets_by(frame.wider(3.0)),
+            false => covered,
+        }
+    }
+
+    /// How much of streets alone.
+    fn streets_by(&self, frame: Rect) -> f64 {
+        let street = |number: usize| {
+            let pieces = self.lines[number].pieces();
+            let length: f64 = pieces.map(|(from, to)| frame.holds(from, to)).sum();
             if length > 0.0 {
                 1.0 + length / 20.0
             } else {
                 0.0
             }
         };
-        6.0 * meeting(&self.names)
-            + 4.0 * meeting(&self.nodes)
-            + near.map(|(_, line)| street(line)).sum::<f64>()
+        let mut near: Vec<usize> = self.streets.meeting(frame).take(MANY).collect();
+        near.sort_unstable();
+        near.into_iter().map(street).sum()
+    }
+
+    /// The label that covers least; of several that cover as much, the first.
+    fn least(&self, mut labels: impl Iterator<Item = Label>) -> Option<Label> {
+        let mut best = labels.next()?;
+        let mut least = self.by(best.frame, f64::INFINITY);
+        for label in labels {
+            if least == 0.0 {
+                break;
+            }
+            let covers = self.by(label.frame, least);
+            if covers < least {
+                (best, least) = (label, covers);
+            }
+        }
+        Some(best)
     }
 }
 
 /// The nodes' names, each where it covers least; `ridden` is the route's
 /// line, which they should not cover either.
 pub fn labels(scene: &Scene, map: &Map, ridden: &[Line]) -> Vec<Label> {
-    let lines = map.lines.iter().chain(ridden);
-    let whole = |line: &Line| Rect::round(line.points.iter().copied());
-    let mut covered = Covered {
-        names: Vec::new(),
-        nodes: map
-            .places
-            .iter()
-            .map(|place| Rect::of(*place).wider(5.0))
-            .collect(),
-        streets: lines.map(|line| (whole(line), line.clone())).collect(),
-    };
+    let lines = map.lines.iter().chain(ridden).collect();
+    let mut covered = Covered::new(&map.places, lines);
     let mut labels = Vec::with_capacity(scene.nodes.len());
     for (node, place) in scene.nodes.iter().zip(&map.places) {
         let mut lines = wrapped(&node.name);
@@ -161,10 +196,8 @@ pub fn labels(scene: &Scene, map: &Map, ridden: &[Line]) -> Vec<Label> {
             .into_iter()
             .flat_map(|apart| SIDES.map(|side| (side, apart)));
         let near = near.map(|(side, apart)| beside(*place, &lines, side, apart));
-        let weighed = near.map(|label| (covered.by(label.frame), label));
-        // Of several that cover as much, the first.
-        if let Some((_, label)) = weighed.min_by(|one, other| one.0.total_cmp(&other.0)) {
-            covered.names.push(label.frame);
+        if let Some(label) = covered.least(near) {
+            covered.names.add(label.frame);
             labels.push(label);
         }
     }

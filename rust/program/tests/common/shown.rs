@@ -3,10 +3,14 @@
 
 use std::ops::Range;
 
-/// The widths of the fields in bytes, kind and check too.
+/// The widths of the fields in bytes, kind and check too; the sixth of a segment
+/// is its length.
 const HEAD: [usize; 5] = [1, 1, 2, 2, 1];
 const SEGMENT: [usize; 25] = [
     1, 2, 1, 2, 1, 2, 1, 1, 1, 1, 1, 1, 1, 1, 1, 1, 2, 1, 1, 1, 1, 1, 2, 1, 1,
+];
+const SEGMENT_03: [usize; 25] = [
+    1, 2, 1, 2, 1, 4, 1, 1, 1, 1, 1, 1, 1, 1, 1, 1, 2, 1, 1, 1, 1, 1, 2, 1, 1,
 ];
 /// The most bytes of a line that are shown.
 const MOST: usize = 100;
@@ -23,6 +27,8 @@ pub struct Refused<'t> {
     pub line: &'t [u8],
     /// The bytes of the text from it on.
     rest: &'t [u8],
+    /// The widths of the fields that are due in it.
+    widths: &'static [usize],
 }
 
 impl<'t> Refused<'t> {
@@ -40,6 +46,11 @@ impl<'t> Refused<'t> {
             start: text.len() - rest.len(),
             line: &rest[..feed(rest).unwrap_or(rest.len())],
             rest,
+            widths: match (number, text.get(2..4)) {
+                (1, _) => &HEAD,
+                (_, Some(b"03")) => &SEGMENT_03,
+                _ => &SEGMENT,
+            },
         })
     }
 
@@ -89,11 +100,8 @@ impl<'t> Refused<'t> {
     }
 
     fn wrong_frame(&self) -> Option<Range<usize>> {
-        let (kind, fields) = match self.number {
-            1 => (b"01", &HEAD[..]),
-            _ => (b"02", &SEGMENT[..]),
-        };
-        let digits = 2 * fields.iter().sum::<usize>();
+        let kind = if self.number == 1 { b"01" } else { b"02" };
+        let digits = 2 * self.widths.iter().sum::<usize>();
         match self.line.starts_with(kind) {
             false => Some(0..2),
             true => (self.line.len() > digits).then_some(digits..self.line.len()),
@@ -102,16 +110,11 @@ impl<'t> Refused<'t> {
 
     /// The digits of each field.
     fn fields(&self) -> Vec<Range<usize>> {
-        let widths = if self.number == 1 {
-            &HEAD[..]
-        } else {
-            &SEGMENT[..]
-        };
-        let ends = widths.iter().scan(0, |end, width| {
+        let ends = self.widths.iter().scan(0, |end, width| {
             *end += 2 * width;
             Some(*end)
         });
-        let ends = ends.zip(widths);
+        let ends = ends.zip(self.widths);
         ends.map(|(end, width)| end - 2 * width..end).collect()
     }
 

@@ -2,9 +2,13 @@
 
 use super::Rng;
 use crate::edition::{NO_EDITIONS, all_marks, last_control, uncrossed};
-use crate::sizes::{HEAD, SEGMENT};
-use crate::sizes::{MOST_BYTES, MOST_FEET, MOST_NODES, MOST_SEGMENTS, MOST_TURN_FEET};
-use crate::town::{SEGMENT_KIND, TURN_LANE, Town, check, head_of, line, text_of};
+use crate::sizes::{HEAD, MOST_TURN_FEET};
+use crate::sizes::{length_bytes, most_feet, most_nodes, most_segments, segment_bytes};
+use crate::town::{COUNTY, NEWER, SEGMENT_KIND, TURN_LANE};
+use crate::town::{Town, check, head_of, line, text_of};
+
+/// Bytes of output that a damaged text is lent beyond the town's own.
+const SPARE: usize = 1_000;
 
 /// Which line a damage shall hit.
 #[derive(Clone, Copy, Debug, PartialEq, Eq)]
@@ -75,6 +79,7 @@ pub fn damage(rng: &mut Rng, town: &Town, number: u8, spot: Spot) -> Option<Dama
         spot,
         place,
     };
+    let output = SPARE + site.frames.concat().len();
     let (text, line, what) = match number {
         1 => site.no_digits(rng),
         2 => site.wrong_check(rng),
@@ -87,7 +92,7 @@ pub fn damage(rng: &mut Rng, town: &Town, number: u8, spot: Spot) -> Option<Dama
     };
     Some(Damage {
         text,
-        output: MOST_BYTES,
+        output,
         refusal: (number, line),
         what,
     })
@@ -133,14 +138,10 @@ impl Site {
                 frame.pop();
                 "a byte less"
             }
-            2 => {
-                let extra = rng.range(1, 100);
-                frame.extend(vec![0; extra]);
-                "bytes more"
-            }
+            2 => more_bytes(rng, frame, (!first).then_some(self.edition)),
             3 => {
                 *frame = if first {
-                    blank_segment()
+                    blank_segment(self.edition)
                 } else {
                     head_of(self.edition, 1, 0)
                 };
@@ -159,7 +160,7 @@ impl Site {
         let nodes = [self.frames[0][2], self.frames[0][3]];
         let frame = &mut self.frames[self.place];
         let what = if self.place == 0 {
-            spoil_head(rng, frame)
+            spoil_head(rng, frame, self.edition)
         } else {
             spoil_segment(rng, frame, nodes, self.edition)
         };
@@ -186,7 +187,7 @@ impl Site {
                 (segments + 1, "the last line left out")
             }
             _ => {
-                let mut extra = blank_segment();
+                let mut extra = blank_segment(self.edition);
                 // Good or not after its kind, it is beyond S.
                 extra[1] = rng.pick(&[0, 255]);
                 seal(&mut extra);
@@ -219,15 +220,35 @@ impl Site {
     }
 }
 
+/// Appends bytes to a frame; one of a segment of an edition may get the other
+/// width instead.
+fn more_bytes(rng: &mut Rng, frame: &mut Vec<u8>, segment: Option<u8>) -> &'static str {
+    let extra = rng.range(1, 100);
+    if let Some(edition) = segment.filter(|_| extra > 50) {
+        frame.resize(segment_bytes(other_width(edition)), 0);
+        return "a frame of the other width";
+    }
+    frame.extend(vec![0; extra]);
+    "bytes more"
+}
+
 /// Changes one byte, so that the check is wrong.
 fn change_byte(rng: &mut Rng, frame: &mut [u8]) {
     let at = rng.below(frame.len());
     frame[at] = frame[at].wrapping_add(rng.range(1, 255) as u8);
 }
 
+/// An edition whose segment frames have the other width.
+fn other_width(edition: u8) -> u8 {
+    match edition {
+        COUNTY => NEWER,
+        _ => COUNTY,
+    }
+}
+
 /// A segment frame of zeros after its kind, not sealed.
-fn blank_segment() -> Vec<u8> {
-    let mut frame = vec![0; SEGMENT];
+fn blank_segment(edition: u8) -> Vec<u8> {
+    let mut frame = vec![0; segment_bytes(edition)];
     frame[0] = SEGMENT_KIND;
     frame
 }
@@ -322,14 +343,15 @@ fn too_short(rng: &mut Rng, town: &Town, spot: Spot) -> Damage {
     }
 }
 
-/// A count above the most of a town.
+/// A count above the most of an edition.
 fn too_many(rng: &mut Rng, most: usize) -> [u8; 2] {
     let most = most as u16;
     rng.pick(&[most + 1, most + 256, u16::MAX]).to_be_bytes()
 }
 
-/// Puts a field of a head out of order; the check is left as it was.
-fn spoil_head(rng: &mut Rng, frame: &mut [u8]) -> &'static str {
+/// Puts a field of a head of an edition out of order; the check is left as it
+/// was.
+fn spoil_head(rng: &mut Rng, frame: &mut [u8], edition: u8) -> &'static str {
     match rng.below(5) {
         0 => {
             frame[1] = rng.pick(&NO_EDITIONS);
@@ -340,23 +362,33 @@ fn spoil_head(rng: &mut Rng, frame: &mut [u8]) -> &'static str {
             "no nodes"
         }
         2 => {
-            frame[2..4].copy_from_slice(&too_many(rng, MOST_NODES));
+            frame[2..4].copy_from_slice(&too_many(rng, most_nodes(edition)));
             "too many nodes"
         }
         _ => {
-            frame[4..6].copy_from_slice(&too_many(rng, MOST_SEGMENTS));
+            frame[4..6].copy_from_slice(&too_many(rng, most_segments(edition)));
             "too many segments"
         }
     }
 }
 
+/// The place of a segment frame's length.
+const LENGTH: usize = 7;
+
+/// The place of a segment frame's form, after its length.
+fn form_at(edition: u8) -> usize {
+    LENGTH + length_bytes(edition)
+}
+
 /// Puts a field of a good segment frame of an edition out of order; the check
 /// is left as it was.
 fn spoil_segment(rng: &mut Rng, frame: &mut [u8], nodes: [u8; 2], edition: u8) -> &'static str {
-    let approach = rng.pick(&[15, 22]);
+    let form = form_at(edition);
+    let approach = form + rng.pick(&[6, 13]);
     match rng.below(20) {
-        field @ 0..=4 => spoil_ends(rng, frame, nodes, field),
-        field @ 5..=10 => spoil_form(rng, frame, field, edition),
+        4 => spoil_length(rng, &mut frame[LENGTH..form], edition),
+        field @ 0..=3 => spoil_ends(rng, frame, nodes, field),
+        field @ 5..=10 => spoil_form(rng, &mut frame[form..], field, edition),
         field @ 11..=15 => spoil_crossing(rng, &mut frame[approach..], field, edition),
         field => spoil_turn_lane(rng, &mut frame[approach..], field),
     }
@@ -376,33 +408,51 @@ fn spoil_ends(rng: &mut Rng, frame: &mut [u8], nodes: [u8; 2], field: usize) -> 
             frame[3] = rng.pick(&[8, 9, 128, 255]);
             "A leg"
         }
-        3 => {
+        _ => {
             frame[6] = rng.pick(&[8, 9, 128, 255]);
             "B leg"
-        }
-        _ => {
-            frame[7..9].copy_from_slice(&rng.pick(&[0, MOST_FEET + 1, u16::MAX]).to_be_bytes());
-            "length"
         }
     }
 }
 
-fn spoil_form(rng: &mut Rng, frame: &mut [u8], field: usize, edition: u8) -> &'static str {
-    let (path, mixed) = (frame[9] == 3, frame[9] == 0);
+/// Puts a length out of order. One of four bytes is also so far too long that
+/// its low bytes alone would do.
+fn spoil_length(rng: &mut Rng, length: &mut [u8], edition: u8) -> &'static str {
+    let most = most_feet(edition);
+    let feet = match edition {
+        COUNTY => rng.pick(&[
+            0,
+            most + 1,
+            (5 << 16) + 500,
+            (1 << 24) + 500,
+            1 << 24,
+            1 << 31,
+            500 << 16,
+            u32::MAX,
+        ]),
+        _ => rng.pick(&[0, most + 1, u16::MAX.into()]),
+    };
+    length.copy_from_slice(&feet.to_be_bytes()[4 - length.len()..]);
+    "length"
+}
+
+/// The same of a form and what stands after it, which begin the bytes.
+fn spoil_form(rng: &mut Rng, bytes: &mut [u8], field: usize, edition: u8) -> &'static str {
+    let (path, mixed) = (bytes[0] == 3, bytes[0] == 0);
     let over = all_marks(edition) + 1;
     let (at, bad, what): (usize, &[u8], &str) = match field {
-        5 => (9, &[4, 5, 255], "form"),
-        6 => (10, &[0, 4, 5, 255], "ways"),
-        7 if path => (11, &[1, 255], "lanes"),
-        7 => (11, &[0, 13, 255], "lanes"),
-        8 if path => (12, &[5, 255], "speed"),
-        8 => (12, &[0, 4, 86, 255], "speed"),
-        9 if path || mixed => (13, &[1, 60], "reach"),
-        9 => (13, &[61, 255], "reach"),
-        _ if path => (14, &[1, 8, TURN_LANE], "marks"),
-        _ => (14, &[over, over + 1, 128, 255], "marks"),
+        5 => (0, &[4, 5, 255], "form"),
+        6 => (1, &[0, 4, 5, 255], "ways"),
+        7 if path => (2, &[1, 255], "lanes"),
+        7 => (2, &[0, 13, 255], "lanes"),
+        8 if path => (3, &[5, 255], "speed"),
+        8 => (3, &[0, 4, 86, 255], "speed"),
+        9 if path || mixed => (4, &[1, 60], "reach"),
+        9 => (4, &[61, 255], "reach"),
+        _ if path => (5, &[1, 8, TURN_LANE], "marks"),
+        _ => (5, &[over, over + 1, 128, 255], "marks"),
     };
-    frame[at] = rng.pick(bad);
+    bytes[at] = rng.pick(bad);
     what
 }
 
@@ -473,11 +523,12 @@ pub fn damage_kept(rng: &mut Rng, town: &Town) -> Vec<u8> {
     let mut bad = town.frames();
     let segments = bad.len() - 1;
     let place = rng.below(bad.len());
-    match rng.below(9) {
+    let segment = segment_bytes(town.edition);
+    match rng.below(10) {
         0 => change_byte(rng, &mut bad[place]),
         1 => return net[..rng.below(net.len())].to_vec(),
         2 => {
-            let more = rng.pick(&[1, HEAD, SEGMENT - 1, SEGMENT, 2 * SEGMENT]);
+            let more = rng.pick(&[1, HEAD, segment - 1, segment, 2 * segment]);
             return [net, vec![0; more]].concat();
         }
         3 => {
@@ -485,7 +536,7 @@ pub fn damage_kept(rng: &mut Rng, town: &Town) -> Vec<u8> {
             seal(&mut bad[place]);
         }
         4 => {
-            spoil_head(rng, &mut bad[0]);
+            spoil_head(rng, &mut bad[0], town.edition);
             seal(&mut bad[0]);
         }
         5 if segments > 0 => {
@@ -496,6 +547,7 @@ pub fn damage_kept(rng: &mut Rng, town: &Town) -> Vec<u8> {
             let one = 1 + rng.below(segments - 1);
             share_corner(&mut bad, (one, 4), (segments, 1));
         }
+        8 if segments > 0 => return in_the_other_width(town),
         _ if segments > 0 => {
             let (place, nodes) = (place.max(1), [bad[0][2], bad[0][3]]);
             spoil_segment(rng, &mut bad[place], nodes, town.edition);
@@ -504,6 +556,14 @@ pub fn damage_kept(rng: &mut Rng, town: &Town) -> Vec<u8> {
         _ => return Vec::new(),
     }
     bad.concat()
+}
+
+/// The bytes of a town with frames of the width that its edition has not.
+fn in_the_other_width(town: &Town) -> Vec<u8> {
+    let mut frames = vec![town.head()];
+    let other = other_width(town.edition);
+    frames.extend(town.segments.iter().map(|street| street.frame_of(other)));
+    frames.concat()
 }
 
 /// Gives the end at one frame and byte to that at another.
@@ -529,7 +589,8 @@ pub fn change(rng: &mut Rng, text: &mut Vec<u8>) {
         4 => text.truncate(at),
         _ => {
             // Two digits of one line change places: the check often stays.
-            let length = line_length(SEGMENT);
+            let edition = text.get(3).map_or(0, |digit| digit.wrapping_sub(b'0'));
+            let length = line_length(segment_bytes(edition));
             let other = (at / length * length + rng.below(length)).min(text.len() - 1);
             text.swap(at, other);
         }

@@ -2,8 +2,9 @@
 
 use super::Rng;
 use crate::edition::all_marks;
-use crate::sizes::{MOST_FEET, MOST_TURN_FEET};
-use crate::town::{Approach, End, IMPROVED_SIGNAL, MEDIAN, OLDER, RESIDENTIAL, Segment, TURN_LANE};
+use crate::sizes::{MOST_TURN_FEET, most_feet};
+use crate::town::TURN_LANE;
+use crate::town::{Approach, COUNTY, End, IMPROVED_SIGNAL, MEDIAN, OLDER, RESIDENTIAL, Segment};
 
 /// How the fields of a town's streets are drawn.
 #[derive(Clone, Copy, Debug, PartialEq, Eq)]
@@ -23,26 +24,42 @@ pub(super) enum Style {
 }
 
 pub(super) struct Fields {
-    /// Which values there are to draw.
+    /// The town's edition, with its sizes and lengths.
     pub edition: u8,
+    /// The edition whose marks and controls there are to draw.
+    pub values: u8,
     pub style: Style,
     /// Percent of streets open one way only.
     pub one_way: usize,
     /// Lengths to choose from; none means the whole range.
-    pub lengths: Option<&'static [u16]>,
+    pub lengths: Option<&'static [u32]>,
 }
 
 /// Marks that most gentle streets have at most.
 const QUIET: u8 = RESIDENTIAL | MEDIAN | TURN_LANE;
 
-pub(super) const TIED: [u16; 1] = [100];
-pub(super) const HALVES: [u16; 3] = [100, 200, 300];
-pub(super) const BLOCKS: [u16; 6] = [150, 264, 300, 330, 528, 660];
+pub(super) const TIED: [u32; 1] = [100];
+pub(super) const HALVES: [u32; 3] = [100, 200, 300];
+pub(super) const BLOCKS: [u32; 6] = [150, 264, 300, 330, 528, 660];
+/// Blocks, and the links of a county: a mile, five, twelve and a half and fifty.
+pub(super) const LINKS: [u32; 8] = [264, 330, 528, 660, 5_280, 26_400, 66_000, 264_000];
+
+/// The lengths next to the limits of an edition: what its bytes tell apart, and
+/// the longest.
+fn edges(edition: u8) -> Vec<u32> {
+    let most = most_feet(edition);
+    let mut all = vec![1, 2, 255, 256, 257, most - 1, most];
+    if edition == COUNTY {
+        all.extend([52_800, 52_801, 65_535, 65_536, 65_537, 131_072]);
+    }
+    all
+}
 
 impl Fields {
     pub fn draw(rng: &mut Rng, edition: u8) -> Fields {
         Fields {
             edition,
+            values: edition,
             style: rng.pick(&[
                 Style::Paths,
                 Style::Gentle,
@@ -55,17 +72,18 @@ impl Fields {
                 Style::Crossings,
             ]),
             one_way: rng.pick(&[0, 0, 10, 30, 60, 100]),
-            lengths: rng.pick(&[None, None, Some(&BLOCKS), Some(&HALVES), Some(&TIED)]),
+            lengths: match edition {
+                COUNTY => rng.pick(&[None, None, None, Some(&LINKS[..]), Some(&BLOCKS)]),
+                _ => rng.pick(&[None, None, Some(&BLOCKS), Some(&HALVES), Some(&TIED)]),
+            },
         }
     }
 
     pub fn street(&self, rng: &mut Rng, a: End, b: End) -> Segment {
         let length = match self.lengths {
             Some(list) => rng.pick(list),
-            None if self.style == Style::Edges => {
-                rng.pick(&[1, 2, 255, 256, 257, MOST_FEET - 1, MOST_FEET])
-            }
-            None => rng.range(1, MOST_FEET.into()) as u16,
+            None if self.style == Style::Edges => rng.pick(&edges(self.edition)),
+            None => rng.range(1, most_feet(self.edition) as usize) as u32,
         };
         let ways = if rng.chance(self.one_way) {
             rng.range(1, 2) as u8
@@ -87,7 +105,7 @@ impl Fields {
     }
 
     fn traffic(&self, rng: &mut Rng, form: u8) -> (u8, u8, u8, u8) {
-        let marks = rng.below(1 + usize::from(all_marks(self.edition))) as u8;
+        let marks = rng.below(1 + usize::from(all_marks(self.values))) as u8;
         match self.style {
             Style::Gentle | Style::Crossings => (
                 rng.pick(&[1, 1, 1, 2, 2, 3]),
@@ -150,7 +168,7 @@ impl Fields {
             _ => rng.range(0, 4) as u8,
         };
         if control < 2 {
-            let improved = self.edition != OLDER && rng.chance(40);
+            let improved = self.values != OLDER && rng.chance(40);
             return Approach::crossing(if improved { IMPROVED_SIGNAL } else { control }, 0, 0);
         }
         let (lanes, speed) = match self.style {

@@ -1,9 +1,9 @@
 //! Street plans: towns of each shape.
 
-use super::fields::{BLOCKS, Fields, HALVES, Style, TIED};
+use super::fields::{BLOCKS, Fields, HALVES, LINKS, Style, TIED};
 use super::{Rng, Shape};
-use crate::sizes::{MOST_NODES, MOST_SEGMENTS};
-use crate::town::{End, OLDER, Segment, Town, end};
+use crate::sizes::{MOST_NODES, most_feet, most_nodes, most_segments};
+use crate::town::{Approach, COUNTY, End, OLDER, Segment, Town, end};
 
 /// A town in the making: which legs are still free.
 struct Plan {
@@ -15,7 +15,7 @@ struct Plan {
 
 impl Plan {
     fn new(nodes: usize, fields: Fields, wanted: usize) -> Plan {
-        let nodes = nodes.clamp(1, MOST_NODES);
+        let nodes = nodes.clamp(1, most_nodes(fields.edition));
         Plan {
             town: Town::new(nodes as u16).edition(fields.edition),
             used: vec![0; nodes],
@@ -29,7 +29,7 @@ impl Plan {
     }
 
     fn full(&self) -> bool {
-        self.town.segments.len() >= self.wanted.min(MOST_SEGMENTS)
+        self.town.segments.len() >= self.wanted.min(most_segments(self.town.edition))
     }
 
     fn free_leg(&self, rng: &mut Rng, node: usize) -> Option<End> {
@@ -108,10 +108,10 @@ pub fn town(shape: Shape, seed: u64, segments: usize) -> Town {
     town_of(OLDER, shape, seed, segments)
 }
 
-/// The same of an edition that exists, with the values that it has.
+/// The same of an edition that exists, with its sizes and the values that it has.
 pub fn town_of(edition: u8, shape: Shape, seed: u64, segments: usize) -> Town {
     let rng = &mut Rng::new(seed ^ (shape as u64) << 48);
-    let wanted = segments.min(MOST_SEGMENTS);
+    let wanted = segments.min(most_segments(edition));
     let fields = Fields::draw(rng, edition);
     match shape {
         // A late parent makes deep trees, any parent shallow ones.
@@ -126,11 +126,9 @@ pub fn town_of(edition: u8, shape: Shape, seed: u64, segments: usize) -> Town {
         Shape::Maze => maze(rng, fields, wanted),
         Shape::Wild => wild(rng, fields, wanted),
         Shape::Single => filled(rng, fields, 1, wanted),
-        Shape::Empty => {
-            let most = MOST_NODES as u16;
-            Town::new(rng.pick(&[1, 2, 10, 255, 256, most - 1, most])).edition(edition)
-        }
+        Shape::Empty => empty(rng, edition),
         Shape::Sparse => sparse(rng, fields, wanted),
+        Shape::Back => back(rng, fields, wanted),
     }
 }
 
@@ -219,13 +217,63 @@ fn wild(rng: &mut Rng, mut fields: Fields, wanted: usize) -> Town {
     filled(rng, fields, nodes, wanted)
 }
 
+fn empty(rng: &mut Rng, edition: u8) -> Town {
+    let (town, most) = (MOST_NODES as u16, most_nodes(edition) as u16);
+    let nodes = match edition {
+        COUNTY => rng.pick(&[1, 255, town - 1, town, town + 1, most - 1, most]),
+        _ => rng.pick(&[1, 2, 10, 255, 256, most - 1, most]),
+    };
+    Town::new(nodes).edition(edition)
+}
+
 fn sparse(rng: &mut Rng, fields: Fields, wanted: usize) -> Town {
-    let mut plan = Plan::new(MOST_NODES, fields, wanted);
-    let start = rng.below(MOST_NODES);
+    let most = most_nodes(fields.edition);
+    let nodes = match fields.edition {
+        // As many as a town may have, one more, and as many as there may be.
+        COUNTY => rng.pick(&[MOST_NODES, MOST_NODES + 1, most]),
+        _ => most,
+    };
+    let mut plan = Plan::new(nodes, fields, wanted);
+    let start = rng.below(nodes);
     let near = wanted / 2 + 2;
     for _ in 0..8 * wanted {
         let (a, b) = (rng.below(near), rng.below(near));
-        plan.join(rng, (start + a) % MOST_NODES, (start + b) % MOST_NODES);
+        plan.join(rng, (start + a) % nodes, (start + b) % nodes);
+    }
+    plan.town
+}
+
+/// A corner of node 1 that one may turn at only from the far side: from the first
+/// node to the last the low-stress way rides a chain of streets out to a loop at
+/// its end, turns there, and rides every one of them back. Nearly every run is
+/// then one of the route's.
+fn back(rng: &mut Rng, mut fields: Fields, wanted: usize) -> Town {
+    (fields.style, fields.one_way) = (Style::Paths, 0);
+    let most = most_feet(fields.edition) as usize;
+    let far = fields.lengths.is_none();
+    let mut plan = Plan::new(wanted, fields, wanted);
+    let (last, turn) = (wanted.saturating_sub(1), wanted.saturating_sub(2).max(1));
+    let corner = |node: usize, leg| end(node as u16, leg);
+    let mut pairs = vec![
+        (corner(0, 0), corner(1, 4)),
+        (corner(1, 6), corner(last, 0)),
+        (corner(turn, 2), corner(turn, 0)),
+    ];
+    pairs.extend((1..turn).map(|node| (corner(node, 0), corner(node + 1, 4))));
+    pairs.truncate(if wanted < 3 { 0 } else { wanted });
+    if rng.chance(50) {
+        rng.shuffle(&mut pairs);
+    }
+    for (a, b) in pairs {
+        let Some(street) = plan.lay(rng, a, b) else {
+            continue;
+        };
+        if far {
+            street.length = rng.range(most - 100, most) as u32;
+        }
+        if b == corner(1, 4) {
+            street.at_b = Approach::crossing(2, 6, 40);
+        }
     }
     plan.town
 }
@@ -233,14 +281,31 @@ fn sparse(rng: &mut Rng, fields: Fields, wanted: usize) -> Town {
 /// A grid as towns have it: quiet blocks, every third street or so a busier
 /// one, some of them one-way.
 pub fn mixed_grid(seed: u64, segments: usize) -> Town {
+    mixed_grid_of(OLDER, seed, segments)
+}
+
+/// The same of an edition, with its sizes: up to a town's size the same streets
+/// in each.
+pub fn mixed_grid_of(edition: u8, seed: u64, segments: usize) -> Town {
+    mixed(edition, &BLOCKS, seed, segments)
+}
+
+/// The same of edition 03 with a county's lengths, of which many are equal.
+pub fn county_grid(seed: u64, segments: usize) -> Town {
+    mixed(COUNTY, &LINKS, seed, segments)
+}
+
+fn mixed(edition: u8, lengths: &'static [u32], seed: u64, segments: usize) -> Town {
     let mut rng = Rng::new(seed);
     let fields = |style| Fields {
-        edition: OLDER,
+        edition,
+        values: OLDER,
         style,
         one_way: 10,
-        lengths: Some(&BLOCKS),
+        lengths: Some(lengths),
     };
-    let mut town = grid(&mut rng, fields(Style::Gentle), segments.min(MOST_SEGMENTS));
+    let wanted = segments.min(most_segments(edition));
+    let mut town = grid(&mut rng, fields(Style::Gentle), wanted);
     let busier = fields(Style::Mixed);
     for street in &mut town.segments {
         if rng.chance(30) {

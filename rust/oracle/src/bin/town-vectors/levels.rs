@@ -4,10 +4,10 @@ use crate::{Folder, nodes_alone};
 use oracle::MOST_INPUT;
 use std::io;
 use towns::draw::{self, Rng, Shape, Spot, damage};
-use towns::sizes::MOST_SEGMENTS;
+use towns::sizes::{COUNTY_SEGMENTS, MOST_SEGMENTS};
 use towns::town::{
-    Approach, CENTRELINE, IMPROVED_SIGNAL, NEWER, OLDER, SIGNAL, Segment, TURN_LANE, Town,
-    block_town, check, end, head, line,
+    Approach, CENTRELINE, COUNTY, IMPROVED_SIGNAL, NEWER, OLDER, SIGNAL, Segment, TURN_LANE, Town,
+    block_town, check, end, head, head_of, line,
 };
 
 pub fn write(out: &Folder) -> io::Result<()> {
@@ -23,8 +23,11 @@ pub fn write(out: &Folder) -> io::Result<()> {
     order_within_a_line(out)?;
     each_number(out)?;
     two_editions(out)?;
+    counties(out)?;
+    sizes_of_counties(out)?;
     let thousand = whole_towns(out)?;
-    round_the_limit(out, &thousand)
+    round_the_limit(out, &thousand)?;
+    round_the_limit_of_counties(out)
 }
 
 impl Folder {
@@ -127,6 +130,63 @@ fn two_editions(out: &Folder) -> io::Result<()> {
     out.refused("control-6-in-02", &text(NEWER, 0, 6), 4, 2)
 }
 
+/// A street of a length from node 0 to node 1.
+fn link(feet: u32, marks: u8, control: u8) -> Segment {
+    let lane = Segment::path(end(0, 2), end(1, 6), feet).street(1, 1, 26, 24, marks);
+    lane.at_b(Approach::crossing(control, 0, 0))
+}
+
+/// The text of a network of edition 03 with one street.
+fn county(nodes: u16, link: Segment) -> Vec<u8> {
+    Town::new(nodes).edition(COUNTY).with(link).text()
+}
+
+/// Edition 03: its values and lengths.
+fn counties(out: &Folder) -> io::Result<()> {
+    let known = CENTRELINE + TURN_LANE;
+    out.put("edition-03", &county(2, link(500, known, IMPROVED_SIGNAL)))?;
+    out.refused("marks-32-in-03", &county(2, link(500, 32, SIGNAL)), 4, 2)?;
+    out.refused("control-6-in-03", &county(2, link(500, 0, 6)), 4, 2)?;
+    for feet in [52_801, 65_535, 65_536, 264_000] {
+        let name = format!("length-{feet}-in-03");
+        out.put(&name, &county(2, link(feet, known, SIGNAL)))?;
+    }
+    for feet in [0, 264_001, 1 << 24 | 500, u32::MAX] {
+        let name = format!("length-{feet}-in-03");
+        out.refused(&name, &county(2, link(feet, known, SIGNAL)), 4, 2)?;
+    }
+    let short = Town::new(2).edition(NEWER).with(link(52_801, 0, SIGNAL));
+    out.refused("length-52801-in-02", &short.text(), 4, 2)
+}
+
+/// Frames of the width that an edition has not, and counts that edition 03 alone
+/// has.
+fn sizes_of_counties(out: &Folder) -> io::Result<()> {
+    for (edition, other, width) in [
+        (OLDER, COUNTY, 32),
+        (NEWER, COUNTY, 32),
+        (COUNTY, NEWER, 30),
+    ] {
+        let frame = link(500, 0, SIGNAL).frame_of(other);
+        let text = [line(&head_of(edition, 2, 1)), line(&frame)].concat();
+        out.refused(&format!("{width}-bytes-in-0{edition}"), &text, 3, 2)?;
+    }
+    for (edition, nodes, segments) in [(NEWER, 1_001, 0), (COUNTY, 8_001, 0), (COUNTY, 1, 8_001)] {
+        let name = match segments {
+            0 => format!("nodes-{nodes}-in-0{edition}"),
+            _ => format!("segments-{segments}-in-0{edition}"),
+        };
+        let text = line(&head_of(edition, nodes, segments));
+        out.refused(&name, &text, 4, 1)?;
+    }
+    out.put("nodes-1001-in-03", &county(1_001, link(500, 0, SIGNAL)))?;
+    let last = Segment {
+        b: end(7_999, 6),
+        ..link(500, 0, SIGNAL)
+    };
+    out.put("nodes-8000-in-03", &county(8_000, last))
+}
+
 /// Each number a program can meet, at the first, a middle, the last line.
 fn each_number(out: &Folder) -> io::Result<()> {
     let mut rng = Rng::new(2_024);
@@ -176,4 +236,18 @@ fn round_the_limit(out: &Folder, thousand: &[u8]) -> io::Result<()> {
     out.refused("longer-garbage-after", &garbage, 3, last + 1)?;
     out.refused("longer-cut-before-0a", &zeros(&fewer, 4_582), 1, last)?;
     out.refused("exact-65536", &exact, 3, last + 1)
+}
+
+/// Lines of edition 03 have 65 bytes, so that 1,008 of them are judged at most.
+fn round_the_limit_of_counties(out: &Folder) -> io::Result<()> {
+    let text = |segments: usize| draw::town_of(COUNTY, Shape::Grid, 1, segments).text();
+    let most = text(1_008);
+    assert_eq!(most.len() + 1, MOST_INPUT);
+    out.put("county-1008", &most)?;
+    out.refused("county-1009", &text(1_009), 1, 1_010)?;
+    // Of a county's text the first bytes alone are judged.
+    let whole = text(COUNTY_SEGMENTS);
+    assert_eq!(whole.len(), 520_015);
+    out.refused("county-8000", &whole[..70_000], 1, 1_010)?;
+    out.refused("county-8000-missing", &whole[..most.len()], 5, 1_010)
 }

@@ -7,11 +7,14 @@
 //! - `levels/NAME.refused`, what program `examples_refused` must print for that
 //!   input;
 //! - `routes/NAME.in` and `routes/NAME.out`, the same as the first for program
-//!   `examples_routes`.
+//!   `examples_routes`;
+//! - `counties/NAME.answers`, what must be answered about a county that
+//!   `town-gen` draws, as its first line says.
 //!
 //! Inputs are laid out by hand, or drawn from a seed and some of them damaged;
 //! outputs are the oracle's alone.
 
+mod counties;
 mod levels;
 mod routes;
 
@@ -44,7 +47,8 @@ fn write(directory: &Path) -> io::Result<()> {
         directory.join("levels"),
         vec![levels, refused],
     )?)?;
-    routes::write(&Folder::new(directory.join("routes"), vec![routes])?)
+    routes::write(&Folder::new(directory.join("routes"), vec![routes])?)?;
+    counties::write(&directory.join("counties"))
 }
 
 /// How the outputs of a program end, and what it must print for an input.

@@ -4,7 +4,8 @@ use crate::{Folder, nodes_alone};
 use std::io;
 use towns::draw::{self, Shape};
 use towns::sizes::MOST_SEGMENTS;
-use towns::town::{Approach, OLDER, RESIDENTIAL, Segment, Town, block_town, end, linden, westerby};
+use towns::town::{Approach, COUNTY, OLDER, RESIDENTIAL, Segment, Town};
+use towns::town::{block_town, end, linden, westerby};
 
 pub fn write(out: &Folder) -> io::Result<()> {
     let mut one_way = block_town();
@@ -19,6 +20,9 @@ pub fn write(out: &Folder) -> io::Result<()> {
         ("linden-busy", busy(linden())),
         ("westerby", westerby()),
         ("westerby-01", westerby().edition(OLDER)),
+        ("westerby-03", westerby().edition(COUNTY)),
+        ("there-and-back-03", there_and_back()),
+        ("small-wild-03", draw::town_of(COUNTY, Shape::Wild, 310, 25)),
         ("single-node", Town::new(1)),
         ("single-node-loops", draw::town(Shape::Single, 4, 4)),
         ("no-segments", nodes_alone()),
@@ -44,6 +48,25 @@ fn twice() -> Town {
         .with(Segment::path(end(5, 3), end(6, 7), 215))
         .with(Segment::path(end(4, 7), end(6, 1), 225).ways(2))
         .with(Segment::path(end(4, 0), end(7, 2), 310))
+}
+
+/// As large as a town may be, of edition 03, every street as long as it may be: at
+/// node 1 one may turn from node 0 to node 2 only on riding back from the end of
+/// all the others.
+fn there_and_back() -> Town {
+    const MOST: u32 = 264_000;
+    let last = MOST_SEGMENTS as u16 - 1;
+    let hard = Approach::crossing(2, 6, 40);
+    let mut town = Town::new(last + 1)
+        .edition(COUNTY)
+        .with(Segment::path(end(0, 0), end(1, 4), MOST).at_b(hard))
+        .with(Segment::path(end(1, 6), end(2, 0), MOST))
+        .with(Segment::path(end(1, 0), end(3, 4), MOST));
+    for node in 3..last {
+        let next = Segment::path(end(node, 0), end(node + 1, 4), MOST);
+        town.segments.push(next);
+    }
+    town.with(Segment::path(end(last, 2), end(last, 0), MOST))
 }
 
 /// Two parts, and a street that may only be ridden the other way.
