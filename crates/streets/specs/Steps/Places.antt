@@ -3,6 +3,11 @@
 -- Assumes nothing.
 use Rattle.std.specs.Prelude.{ℕ, ◌<◌, max, ◌≡◌, cond, true, List, eqb}
 use Rattle.frames.specs.declared.frame.Frame.{Frame}
+use Rattle.frames.specs.Edition.{is_newer}
+use Rattle.frames.specs.Frame.{ways}
+use Rattle.frames.specs.Decoded.{form_of}
+use Rattle.stress.specs.declared.segment.Grade.{Grade}
+use Rattle.stress.specs.NewerSegment.{grade_of}
 use Rattle.network.specs.Network.{edition_of, nodes_of, frame_of, is_network}
 use Rattle.streets.specs.declared.movements.Approach.{Approach}
 use Rattle.streets.specs.declared.movements.Arrival.{Arrival}
@@ -19,6 +24,10 @@ pub record RunOf (net : List ℕ) (r : ℕ) : Type 0 where
 pub record FrameOf (net : List ℕ) (s : ℕ) (f : Frame) : Type 0 where
   pub bytes : f.bytes.now ≡ frame_of net s
   pub edition : f.edition ≡ edition_of net
+
+-- Level and governing measure of the segment of a frame.
+abbrev pub frame_grade : Frame → Grade
+frame_grade f = grade_of (is_newer f.edition) (ways f.edition f.bytes.now) (form_of f.edition f.bytes.now)
 
 -- r is this node of the network.
 pub record NodeOf (net : List ℕ) (node r : ℕ) : Type 0 where
