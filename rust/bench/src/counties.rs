@@ -1,7 +1,9 @@
 //! Edition 03: counties of up to 8,000 segments, and a town as edition 03 beside
 //! the same town as edition 02.
 
-use crate::{Asked, SAMPLES, SEEDS, SIZES, Times, found_line, median, rounds, sample, size_table};
+use crate::{
+    Asked, SAMPLES, SEEDS, SIZES, Times, both, found_line, median, rounds, sample, size_table,
+};
 use bench::{Call, Side, Subject};
 use std::ops::Range;
 use towns::Town;
@@ -39,15 +41,8 @@ fn towns(edition: u8, segments: usize) -> Vec<Subject> {
 /// One call about copies in edition 03 and about the towns in edition 02, by turns.
 fn copies(county: &mut [Subject], newer: &mut [Subject], asked: Asked) -> Times {
     let rounds = rounds(newer, asked);
-    let turn = |turn: usize| {
-        if turn.is_multiple_of(2) {
-            let copy = sample(county, asked, rounds);
-            (copy, sample(newer, asked, rounds))
-        } else {
-            let town = sample(newer, asked, rounds);
-            (sample(county, asked, rounds), town)
-        }
-    };
+    let mut towns = [county, newer];
+    let turn = |turn: usize| both(turn, |side| sample(towns[side], asked, rounds));
     let turns: Vec<(f64, f64)> = (0..SAMPLES).map(turn).collect();
     let of = |value: fn(&(f64, f64)) -> f64| median(turns.iter().map(value).collect());
     Times {

@@ -77,14 +77,13 @@ fn rounds(towns: &mut [Subject], asked: Asked) -> usize {
 }
 
 /// A sample of each of two, the first one's first in every other turn.
-fn both(towns: &mut [Subject], two: [Asked; 2], rounds: usize, turn: usize) -> (f64, f64) {
-    let [one, other] = two;
+fn both(turn: usize, mut sample: impl FnMut(usize) -> f64) -> (f64, f64) {
     if turn.is_multiple_of(2) {
-        let first = sample(towns, one, rounds);
-        (first, sample(towns, other, rounds))
+        let first = sample(0);
+        (first, sample(1))
     } else {
-        let first = sample(towns, other, rounds);
-        (sample(towns, one, rounds), first)
+        let first = sample(1);
+        (sample(0), first)
     }
 }
 
@@ -97,7 +96,7 @@ fn turns(sizes: &mut [Vec<Subject>], two: [Asked; 2]) -> Vec<Vec<(f64, f64)>> {
         .collect();
     let turn = |turn: usize| {
         let each = sizes.iter_mut().zip(&rounds);
-        each.map(|(towns, &rounds)| both(towns, two, rounds, turn))
+        each.map(|(towns, &rounds)| both(turn, |side| sample(towns, two[side], rounds)))
             .collect()
     };
     (0..SAMPLES).map(turn).collect()

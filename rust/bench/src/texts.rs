@@ -1,6 +1,6 @@
 //! Refused line beside Read: the archive's times on the same texts.
 
-use crate::{SAMPLE, SAMPLES, SEEDS, median};
+use crate::{SAMPLE, SAMPLES, SEEDS, both, median};
 use bench::clock::microseconds;
 use bench::damaged;
 use splicereel::MAX_NETWORK;
@@ -46,17 +46,6 @@ impl Subject {
         }
         (microseconds() - start) / calls as f64
     }
-
-    /// A sample of each call, Read's first in every other turn.
-    fn both(&mut self, calls: usize, turn: usize) -> (f64, f64) {
-        if turn.is_multiple_of(2) {
-            let read = self.sample(Asked::Read, calls);
-            (read, self.sample(Asked::Refused, calls))
-        } else {
-            let refused = self.sample(Asked::Refused, calls);
-            (self.sample(Asked::Read, calls), refused)
-        }
-    }
 }
 
 /// Texts by name: a town's, good and damaged, and a line far longer than any
@@ -91,7 +80,9 @@ pub fn table() {
         let mut subject = Subject { text, output };
         let number = subject.ask(Asked::Refused);
         let calls = 1 + (SAMPLE / subject.sample(Asked::Refused, FEW)) as usize;
-        let turns: Vec<(f64, f64)> = (0..SAMPLES).map(|turn| subject.both(calls, turn)).collect();
+        let two = [Asked::Read, Asked::Refused];
+        let turn = |turn| both(turn, |call| subject.sample(two[call], calls));
+        let turns: Vec<(f64, f64)> = (0..SAMPLES).map(turn).collect();
         let of = |value: fn(&(f64, f64)) -> f64| median(turns.iter().map(value).collect());
         let (read, refused) = (of(|turn| turn.0), of(|turn| turn.1));
         let ratio = of(|turn| turn.1 / turn.0);

@@ -2,7 +2,7 @@
 //!
 //! Nothing is tested here: a builder may also make bytes that are no network.
 
-use crate::sizes::{length_bytes, segment_bytes};
+use crate::sizes::{length_bytes, most_feet, most_nodes, segment_bytes};
 
 /// Kind byte of a head.
 const HEAD_KIND: u8 = 1;
@@ -289,6 +289,16 @@ pub fn line(frame: &[u8]) -> Vec<u8> {
 /// A text with a line for each frame.
 pub fn text_of(frames: &[Vec<u8>]) -> Vec<u8> {
     frames.iter().flat_map(|frame| line(frame)).collect()
+}
+
+/// All nodes of an edition in a row, each joined to the next by a path as long
+/// as the edition allows.
+pub fn longest_chain(edition: u8) -> Town {
+    let mut town = Town::new(most_nodes(edition) as u16).edition(edition);
+    let paths = (1..town.nodes)
+        .map(|node| Segment::path(end(node - 1, 0), end(node, 4), most_feet(edition)));
+    town.segments.extend(paths);
+    town
 }
 
 /// Block town, the paper's last starred example.

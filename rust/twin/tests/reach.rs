@@ -5,7 +5,7 @@ use towns::draw::{self, Rng, Shape};
 use towns::edition::EDITIONS;
 use towns::lend::Guarded;
 use towns::sizes::{COUNTY_NODES, COUNTY_SEGMENTS, most_feet, most_nodes};
-use towns::town::{COUNTY, Segment, Town, block_town, end};
+use towns::town::{COUNTY, Segment, Town, block_town, end, longest_chain};
 use twin::TOWN_SEGMENTS;
 
 /// What is lent to both calls, between guards.
@@ -204,14 +204,10 @@ fn no_segments() {
 #[test]
 fn far_nodes() {
     for edition in EDITIONS {
-        let feet = most_feet(edition);
-        let mut town = Town::new(most_nodes(edition) as u16).edition(edition);
+        let town = longest_chain(edition);
         let last = town.nodes - 1;
-        for node in 0..last {
-            town.segments
-                .push(Segment::path(end(node, 0), end(node + 1, 4), feet));
-        }
-        farthest_of(&town.bytes(), last.into(), feet * u32::from(last), 1);
+        let feet = most_feet(edition) * u32::from(last);
+        farthest_of(&town.bytes(), last.into(), feet, 1);
     }
 }
 

@@ -9,7 +9,7 @@ use towns::edition::EDITIONS;
 use towns::lend::{Lengths, Lent};
 use towns::sizes::{COUNTY_NODES, COUNTY_SEGMENTS, MOST_BYTES, MOST_NODES, MOST_SEGMENTS};
 use towns::sizes::{most_feet, most_segments, segment_bytes};
-use towns::town::{Approach, COUNTY, NEWER, Segment, Town, block_town, end};
+use towns::town::{Approach, COUNTY, NEWER, Segment, Town, block_town, end, longest_chain};
 use twin::{Found, MAX_NETWORK, MAX_NODES, MAX_SEGMENTS, TOWN_NODES, TOWN_SEGMENTS};
 use twin::{is_network, judge_movement, judge_segment};
 
@@ -366,21 +366,16 @@ fn label_for_each_run() {
 
 /// A chain of all nodes, every street as long as the edition allows.
 #[test]
-fn longest_chain() {
+fn longest_chain_is_ridden() {
     for edition in EDITIONS {
-        let feet = most_feet(edition);
-        let mut town = Town::new(most_segments(edition) as u16).edition(edition);
+        let town = longest_chain(edition);
         let last = town.nodes - 1;
-        for node in 0..last {
-            town.segments
-                .push(Segment::path(end(node, 0), end(node + 1, 4), feet));
-        }
         let (found, list) = go(&town.bytes(), 0, last.into(), 1).unwrap();
         assert_eq!(
             found,
             Found {
                 count: last.into(),
-                length: u32::from(last) * feet,
+                length: u32::from(last) * most_feet(edition),
                 level: 1
             }
         );
