@@ -35,7 +35,7 @@ unfolding total
 total_none f i h = rw (drop_of_length-le f {i = i} h)
 
 -- ---- the length, a number of two bytes or of four
-two_or_none : (e : ℕ) → (extra e ≡ 0 → ⊥) → extra e ≡ 2
+pub two_or_none : (e : ℕ) → (extra e ≡ 0 → ⊥) → extra e ≡ 2
 unfolding extra
 two_or_none e h = grind (arith, nat_tests)
 

@@ -1,16 +1,16 @@
 -- The limits of a control, looked up, allow what the definition allows: one case for each control.
 -- Assumes nothing.
 use Prim.Native.Nat.{ℕ, zero, suc, ◌≤◌, ◌<◌}
-use mathlib.Core.Bool.{Bool, true, false, not, ◌&&◌, ◌||◌}
+use mathlib.Core.Bool.{Bool, true, false, ◌&&◌, ◌||◌}
 use mathlib.Core.Path.{◌≡◌}
 use mathlib.Core.List.{List, [], ◌∷◌}
 use native.Mathlib.Omega.{arith}
-use lib.Dec.{leb, eqb}
+use lib.Dec.{eqb}
 use Rattle.std.specs.Prelude.{slice_index_or}
 use Rattle.std.proofs.lemmas.Bool.Decides.{nat_tests}
-use Rattle.frames.specs.Edition.{marks_ok, crosses_nothing}
-use Rattle.frames.specs.Frame.{form, lanes, speed, reach, marks, control, lanes_crossed, speed_crossed}
-use Rattle.frames.specs.Ranges.{within, form_ok, crossing_ok}
+use Rattle.frames.specs.Edition.{crosses_nothing}
+use Rattle.frames.specs.Frame.{control, lanes_crossed, speed_crossed}
+use Rattle.frames.specs.Ranges.{within, crossing_ok}
 use Rattle.frames.specs.Steps.Sizes.{last_control}
 
 abbrev six : ℕ → ℕ → ℕ → ℕ → ℕ → ℕ → List ℕ

@@ -17,6 +17,8 @@ pub const NODES: usize = 2;
 
 pub const SEGMENTS: usize = 4;
 
+pub const HEAD_CHECK: usize = 6;
+
 // The bytes of a head's line: two digits for a byte, and 0A.
 pub const HEAD_LINE: usize = 2 * HEAD_BYTES + 1;
 

@@ -101,8 +101,8 @@ impl Frame<'_> {
         (2..=4).contains(&control) & (1..=12).contains(&lanes) & (5..=85).contains(&speed)
     }
 
-    // The same with the limits of lanes and speed looked up, and not asked for by a branch for each kind of control. It takes more instructions; but in a network
-    // so large that no processor foresees which kind comes next, a branch takes longer.
+    // The same with the limits of lanes and speed looked up, and not asked for by a branch for each kind of control. It takes more instructions; but in a
+    // network so large that no processor foresees which kind comes next, a branch takes longer.
     #[tactic(auto, using(crate::proofs::LimitLaws::crossing_by_limits, crate::proofs::LimitLaws::no_such_control))]
     fn crossing_in_limits(&self, i: usize) -> bool
         requires { i + 6 < length self.now.bytes.now }
@@ -149,8 +149,8 @@ impl Frame<'_> {
         crossing && self.turn_lane_ok(i)
     }
 
-    // All that the frame has after its ends. A frame that is refused is rare, so each test is a branch of its own, which costs the others nothing. It is always
-    // inlined: where the edition is a constant, so is all that the edition fixes.
+    // All that the frame has after its ends. A frame that is refused is rare, so each test is a branch of its own, which costs the others nothing. It is
+    // always inlined: where the edition is a constant, so is all that the edition fixes.
     #[inline(always)]
     #[tactic(auto, using(crate::proofs::RangeLaws::contains_within), unfolding(crate::specs::Ranges::street_by))]
     fn street<const LARGE: bool>(&self) -> bool

@@ -55,18 +55,18 @@ frames_passed e n left taken bytes h =
     record { first = faultless e n true taken f (eqb-true _ _ p.0); others = p.1 }
 
 -- ---- frames by their number
-abbrev frame_at : ℕ → List ℕ → ℕ → List ℕ
+abbrev pub frame_at : ℕ → List ℕ → ℕ → List ℕ
 frame_at e bytes s = take (frame_bytes e) (drop (frame_bytes e * s) bytes)
 
-first_frame : (e : ℕ) (bytes : List ℕ) → take (frame_bytes e) bytes ≡ frame_at e bytes 0
+pub first_frame : (e : ℕ) (bytes : List ℕ) → take (frame_bytes e) bytes ≡ frame_at e bytes 0
 first_frame e bytes = ap (λ (i : ℕ). take (frame_bytes e) (drop i bytes)) (sym (mul-zero (frame_bytes e)))
 
-next_frame : (e : ℕ) (bytes : List ℕ) (s : ℕ) → frame_at e (drop (frame_bytes e) bytes) s ≡ frame_at e bytes (suc s)
+pub next_frame : (e : ℕ) (bytes : List ℕ) (s : ℕ) → frame_at e (drop (frame_bytes e) bytes) s ≡ frame_at e bytes (suc s)
 next_frame e bytes s =
     ap (λ (u : List ℕ). take (frame_bytes e) u)
     (drop-drop (frame_bytes e * s) (frame_bytes e) bytes ∙ ap (λ (i : ℕ). drop i bytes) (sym (times_suc (frame_bytes e) s)))
 
-frame_of_lem : (net : List ℕ) (s : ℕ) → frame_at (edition_of net) (drop 7 net) s ≡ frame_of net s
+pub frame_of_lem : (net : List ℕ) (s : ℕ) → frame_at (edition_of net) (drop 7 net) s ≡ frame_of net s
 frame_of_lem net s = ap (λ (u : List ℕ). take (frame_bytes (edition_of net)) u) (drop-drop (frame_bytes (edition_of net) * s) 7 net)
 
 each_follows : (e n left : ℕ) (taken bytes : List ℕ) → frames_ok e n left taken bytes ≡ true → (s : ℕ) → s < left

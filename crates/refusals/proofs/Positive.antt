@@ -5,7 +5,7 @@ use native.Mathlib.Omega.{arith}
 use Rattle.refusals.specs.declared.Refusal.{Refusal}
 use Rattle.refusals.specs.declared.Refusal.TheVariants.{NotDigits, WrongCheck, WrongFrame, WrongField, WrongCount, LegTaken, OutputTooShort}
 use Rattle.refusals.specs.declared.Refusal.TheVariants.{NotANetwork, NoSuchNode, NoSuchTolerance, NoRoom, NoSuchRun, NoMovement, NoRefusedLine}
-use Rattle.refusals.specs.declared.Refusal.TheVariants.{TooFewEntries}
+use Rattle.refusals.specs.declared.Refusal.TheVariants.{TooFewEntries, NoSuchMove, AboveLimits, TooShortForMove}
 use Rattle.refusals.specs.Numbers.{number_of}
 
 pub positive : (refusal : Refusal) → number_of refusal ≡ 0 → ⊥
@@ -24,3 +24,6 @@ positive NoSuchRun z = omega arith
 positive NoMovement z = omega arith
 positive NoRefusedLine z = omega arith
 positive TooFewEntries z = omega arith
+positive NoSuchMove z = omega arith
+positive AboveLimits z = omega arith
+positive TooShortForMove z = omega arith

@@ -4,7 +4,7 @@ use Rattle.std.specs.Prelude.{ℕ, Bool, true, false}
 use Rattle.refusals.specs.declared.Refusal.{Refusal}
 use Rattle.refusals.specs.declared.Refusal.TheVariants.{NotDigits, WrongCheck, WrongFrame, WrongField, WrongCount, LegTaken, OutputTooShort}
 use Rattle.refusals.specs.declared.Refusal.TheVariants.{NotANetwork, NoSuchNode, NoSuchTolerance, NoRoom, NoSuchRun, NoMovement, NoRefusedLine}
-use Rattle.refusals.specs.declared.Refusal.TheVariants.{TooFewEntries}
+use Rattle.refusals.specs.declared.Refusal.TheVariants.{TooFewEntries, NoSuchMove, AboveLimits, TooShortForMove}
 
 abbrev pub number_of : Refusal → ℕ
 -- Read: not whole pairs of uppercase digits ended by 0A, or empty; check; wrong kind or frame length for its position; a field against the ranges or
@@ -28,6 +28,11 @@ number_of NoMovement = 13
 number_of NoRefusedLine = 14
 -- Reach map and Nearest: a lent list or mark list with fewer than N entries.
 number_of TooFewEntries = 15
+-- The moves: a network of an edition with no move that way; a count or length above the limits of the edition moved to; an output shorter than the moved
+-- network.
+number_of NoSuchMove = 16
+number_of AboveLimits = 17
+number_of TooShortForMove = 18
 
 -- Tests in their order: the number of the refusal where the test fails, else what the later tests give. 0 is no refusal.
 abbrev pub unless : Bool → Refusal → ℕ → ℕ

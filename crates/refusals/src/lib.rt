@@ -37,6 +37,12 @@ pub enum Refusal {
     NoRefusedLine,
     // A lent list or mark list has fewer than N entries.
     TooFewEntries,
+    // A network of an edition that has no move that way.
+    NoSuchMove,
+    // A count or a length above the limits of the edition moved to.
+    AboveLimits,
+    // The output is shorter than the moved network.
+    TooShortForMove,
 }
 
 // The paper's number of a refusal.
@@ -60,6 +66,9 @@ impl From<Refusal> for u8 {
             Refusal::NoMovement => 13,
             Refusal::NoRefusedLine => 14,
             Refusal::TooFewEntries => 15,
+            Refusal::NoSuchMove => 16,
+            Refusal::AboveLimits => 17,
+            Refusal::TooShortForMove => 18,
         }
     }
 }

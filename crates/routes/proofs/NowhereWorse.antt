@@ -25,7 +25,7 @@ module _ {g h : Streets} (W : NowhereWorse g h) where
   after_too b r [] l e = W.ground.finishes r l ∙ e
   after_too b r (q ∷ rs) l k = (movement_too k.0, after_too b q rs k.0.onto.0 k.1)
 
-  route_too : (a b : ℕ) (rs : List ℕ) → Route h a b rs → Route g a b rs
+  pub route_too : (a b : ℕ) (rs : List ℕ) → Route h a b rs → Route g a b rs
   route_too a b [] e = e
   route_too a b (r ∷ rs) k = (W.ground.starts r k.1.0 ∙ k.0, open_too k.1, after_too b r rs k.1.0 k.2)
 
@@ -35,7 +35,7 @@ module _ {g h : Streets} (W : NowhereWorse g h) where
   level_from_lem b r (q ∷ rs) l k =
       omega (arith, W.runs_no_higher r l, W.turns_no_higher r q k.0, level_from_lem b q rs k.0.onto.0 k.1)
 
-  level_no_higher : (a b : ℕ) (rs : List ℕ) → Route h a b rs → level_of g rs ≤ level_of h rs
+  pub level_no_higher : (a b : ℕ) (rs : List ℕ) → Route h a b rs → level_of g rs ≤ level_of h rs
   level_no_higher a b [] k = omega arith
   level_no_higher a b (r ∷ rs) k = level_from_lem b r rs k.1.0 k.2
 

@@ -1,21 +1,9 @@
 // Reach map for C.
 ghost use Rattle.splicereel.specs.Reaching.{map_lent};
 ghost use Rattle.splicereel_c.specs.Replies.{MapReplies};
-ghost use Rattle.splicereel_c.specs.Steps.Tells.{CountFits, count_entries};
 
-use crate::tell::{Told, tell};
+use crate::tell::tell;
 use splicereel::reach_map::reach_map;
-
-// A count of entries.
-impl Told for usize {
-    ghost fits = { CountFits };
-
-    ghost entries = { count_entries };
-
-    fn write(self, told: &mut [u32; 8]) {
-        told[0] = self as u32;
-    }
-}
 
 // told[0]: the count of entries.
 #[unsafe(no_mangle)]

@@ -1,7 +1,7 @@
 // How each answer is told: a refusal's number is returned and writes nothing, and an answer that is none writes its numbers in front.
 ghost use Rattle.std.specs.Prelude.{◌≡◌, ℕ, List, ◌++◌, length, drop, IfOk};
 ghost use Rattle.splicereel_c.specs.Replies.{Replies};
-ghost use Rattle.splicereel_c.specs.Steps.Tells.{reply_to};
+ghost use Rattle.splicereel_c.specs.Steps.Tells.{reply_to, CountFits, count_entries};
 
 use refusals::Refusal;
 
@@ -30,5 +30,16 @@ pub fn tell<T: Told>(answer: Result<T, Refusal>, told: &mut [u32; 8]) -> u32
             0
         }
         Err(refusal) => u32::from(u8::from(refusal)),
+    }
+}
+
+// A count, of entries or of bytes.
+impl Told for usize {
+    ghost fits = { CountFits };
+
+    ghost entries = { count_entries };
+
+    fn write(self, told: &mut [u32; 8]) {
+        told[0] = self as u32;
     }
 }

@@ -24,7 +24,7 @@ use Rattle.streets.specs.Steps.Leaving.{opposite, Entry}
 use Rattle.streets.proofs.EndLaws.{run_limits}
 
 -- ---- feet
-street_feet : (e : ℕ) (f : List ℕ) → street_ok e f ≡ true → (1 ≤ feet e f) × (feet e f ≤ most_feet e)
+pub street_feet : (e : ℕ) (f : List ℕ) → street_ok e f ≡ true → (1 ≤ feet e f) × (feet e f ≤ most_feet e)
 unfolding street_by
 street_feet e f h = grind (arith, nat_tests)
 

@@ -25,7 +25,8 @@ use Rattle.network.specs.Network.{kept_bytes, head_of, edition_of, nodes_of, seg
 use Rattle.network.proofs.FaultLaws.{segment_no_fault}
 use Rattle.network.proofs.NetworkLaws.{passed, frames_passed}
 use Rattle.digits.specs.Digits.{line, line_of, bytes_of, rest_of}
-use Rattle.text.specs.Text.{line_text, frames_text, text_of, Bytes}
+use Rattle.lists.specs.Lists.{Bytes}
+use Rattle.text.specs.Text.{line_text, frames_text, text_of}
 use Rattle.text.specs.Accepted.{count, joined, Each, lines_text, Accepted}
 use Rattle.text.specs.Read.{kept, segment_lines, read_of, Reading, refused}
 use Rattle.text.specs.Told.{told, output_of, ReadDid, written, told_of}

@@ -9,7 +9,7 @@ use native.Mathlib.Omega.{arith}
 use lib.Dec.{eqb, leb, ltb}
 use lib.ListN.{length, get_or, drop}
 use borrow.Author.Tests.{eqb-true, ne_eqb, lt-ltb, le-ltb, le-leb, lt-leb, ltb-true, ltb-false}
-use Rattle.lists.specs.Lists.{is_empty}
+use Rattle.lists.specs.Lists.{is_empty, Bytes}
 use Rattle.lists.proofs.Facts.{and_true, true_and}
 use Rattle.lists.proofs.Lists.{true_is_false}
 use Rattle.frames.specs.Ranges.{within}
@@ -17,7 +17,7 @@ use Rattle.frames.proofs.RangeLaws.{within_low, within_high}
 use Rattle.digits.specs.Digits.{is_digit, line, digit, Line, broken, push, line_of, bytes_of, rest_of}
 use Rattle.digits.specs.Steps.Scan.{spelled}
 use Rattle.digits.proofs.DigitLaws.{digit_small, line_end_lem, line_pair}
-use Rattle.text.specs.Text.{hex_digit, line_text, Bytes}
+use Rattle.text.specs.Text.{hex_digit, line_text}
 
 -- ---- bytes
 pub bytes_append : (a b : List ℕ) → Bytes a → Bytes b → Bytes (a ++ b)

@@ -2,11 +2,12 @@
 -- bytes fit the output.
 -- Assumes nothing.
 use Rattle.std.specs.Prelude.{ℕ, zero, suc, ◌≤◌, false, ◌≡◌, List, [], ◌∷◌, ◌++◌}
+use Rattle.lists.specs.Lists.{Bytes}
 use Rattle.frames.specs.Frame.{edition, nodes, segments}
 use Rattle.frames.specs.Follows.{HeadFollows, SegmentFollows}
 use Rattle.network.specs.Legs.{corner_a, corner_b, is_in}
 use Rattle.network.specs.Network.{kept_bytes}
-use Rattle.text.specs.Text.{line_text, Bytes}
+use Rattle.text.specs.Text.{line_text}
 
 -- Of a list of frames: their number; each of them has a property; their bytes joined; their lines; the corners of their ends.
 abbrev pub count : List (List ℕ) → ℕ

@@ -1,6 +1,6 @@
 -- The text of a kept network: a line of uppercase digits for each frame.
 -- Assumes nothing.
-use Rattle.std.specs.Prelude.{ℕ, zero, suc, ◌+◌, ◌/◌, ◌%◌, ◌<◌, cond, List, [], ◌∷◌, ◌++◌, ltb, take, drop}
+use Rattle.std.specs.Prelude.{ℕ, zero, suc, ◌+◌, ◌/◌, ◌%◌, cond, List, [], ◌∷◌, ◌++◌, ltb, take, drop}
 use Rattle.frames.specs.Edition.{frame_bytes}
 use Rattle.frames.specs.Frame.{head_bytes}
 use Rattle.network.specs.Network.{head_of, edition_of, segments_of}
@@ -21,8 +21,3 @@ frames_text size (suc left) bytes = line_text (take size bytes) ++ frames_text s
 
 unfoldable pub text_of : List ℕ → List ℕ
 text_of net = line_text (head_of net) ++ frames_text (frame_bytes (edition_of net)) (segments_of net) (drop head_bytes net)
-
--- Every element is a byte.
-abbrev pub Bytes : List ℕ → Type 0
-Bytes [] = Unit {0}
-Bytes (b ∷ bytes) = (b < 256) × Bytes bytes

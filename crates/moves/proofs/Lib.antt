@@ -1,0 +1,11 @@
+pub mod HeadLaws
+pub mod PieceLaws
+pub mod LengthLaws
+pub mod MovedBytes
+pub mod MovedFrame
+pub mod MovedFields
+pub mod MovedNetwork
+pub mod MovedStreets
+pub mod MovingLaws
+pub mod Writing
+pub mod SamplesHold
