@@ -113,10 +113,11 @@ stack: $(LIB)
 
 # Those named short are asked about Block town, within tolerance 3 and within 4, and must print the same; a damaged text gets the refusal's words. Those
 # named refused show the refused line of that text and find Block town in order. Those named reach list what is in reach there, within two greatest lengths each.
+# Those named moved move Westerby to edition 03 and back; Block town, of edition 01, has no move.
 examples: $(LIB)
 	mkdir -p target/examples
 	$(CARGO) build $(RUST) --package splicereel --examples
-	for program in short refused reach; do \
+	for program in short refused reach moved; do \
 	  $(CC) $(CFLAGS) -Iinclude examples/$$program.c $(LIB) -o target/examples/$$program-c || exit 1; \
 	  cp rust/target/release/examples/$$program target/examples/$$program-rust || exit 1; \
 	done
@@ -137,5 +138,11 @@ examples: $(LIB)
 	    | diff examples/reach.out - || exit 1; \
 	  target/examples/$$program towns/block-town.txt 3 4 0 2>&1 > /dev/null \
 	    | grep -qx '\(Error: \)\?there is no such node' || exit 1; \
+	  echo "$$program prints what it must"; \
+	done
+	for program in moved-c moved-rust; do \
+	  target/examples/$$program towns/westerby.txt | diff examples/moved.out - || exit 1; \
+	  target/examples/$$program towns/block-town.txt 2>&1 > /dev/null \
+	    | grep -qx '\(Error: \)\?a network of this edition has no move that way' || exit 1; \
 	  echo "$$program prints what it must"; \
 	done

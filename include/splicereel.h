@@ -44,7 +44,8 @@
  * 02, and is for counties: up to 8,000 nodes and 8,000 segments in place of
  * 1,000, and segments of up to 264,000 feet in place of 52,800. Its lengths
  * have 4 bytes in place of 2, so that its segment frames have 32 bytes in place
- * of 30.
+ * of 30. A network of edition 02 can be moved up to 03, and one of 03 back to 02
+ * where it is within the limits of that.
  */
 #ifndef SPLICEREEL_H
 #define SPLICEREEL_H
@@ -54,9 +55,9 @@
 
 /* The version of this header and of the archive that it belongs to. */
 #define SPLICEREEL_VERSION_MAJOR 0
-#define SPLICEREEL_VERSION_MINOR 5
+#define SPLICEREEL_VERSION_MINOR 6
 #define SPLICEREEL_VERSION_PATCH 0
-#define SPLICEREEL_VERSION "0.5.0"
+#define SPLICEREEL_VERSION "0.6.0"
 
 #ifdef __cplusplus
 extern "C" {
@@ -152,7 +153,15 @@ enum splicereel_number {
     SPLICEREEL_NO_REFUSED_LINE = 14,
     /* Reach map: the list is shorter than 2 numbers for each node. Nearest:
        there are fewer marks than nodes. */
-    SPLICEREEL_TOO_FEW_ENTRIES = 15
+    SPLICEREEL_TOO_FEW_ENTRIES = 15,
+    /* Move up, Move back: the network is of an edition that has no move that
+       way. */
+    SPLICEREEL_NO_SUCH_MOVE = 16,
+    /* Move back: there are more nodes or segments than edition 02 has, or a
+       segment is longer. */
+    SPLICEREEL_ABOVE_LIMITS = 17,
+    /* Move up, Move back: the output is shorter than the moved network. */
+    SPLICEREEL_TOO_SHORT_FOR_MOVE = 18
 };
 
 /* The text of what a call returned, in English, without a full stop. */
@@ -191,6 +200,12 @@ static inline const char *splicereel_refusal_text(uint32_t number)
         return "Read would accept the text: no line is refused";
     case SPLICEREEL_TOO_FEW_ENTRIES:
         return "a lent list has fewer entries than there are nodes";
+    case SPLICEREEL_NO_SUCH_MOVE:
+        return "a network of this edition has no move that way";
+    case SPLICEREEL_ABOVE_LIMITS:
+        return "a count or a length is above the limits of the edition moved to";
+    case SPLICEREEL_TOO_SHORT_FOR_MOVE:
+        return "the output is shorter than the moved network";
     default:
         return "a number that no call returns";
     }
@@ -226,7 +241,10 @@ enum splicereel_told {
     /* The nearest of them. */
     SPLICEREEL_NEAREST_NODE = 1,
     /* Its least length. */
-    SPLICEREEL_NEAREST_FEET = 2
+    SPLICEREEL_NEAREST_FEET = 2,
+
+    /* Move up, Move back: the bytes written. */
+    SPLICEREEL_MOVE_BYTES = 0
 };
 
 /* Where in `part` Refused line tells what. */
@@ -403,6 +421,36 @@ uint32_t splicereel_nearest(
     const uint8_t *marks, size_t marks_length,
     uint32_t *best, size_t best_length,
     uint32_t *previous, size_t previous_length,
+    uint32_t told[8]);
+
+/*
+ * Move up: a kept network of edition 02 as one of edition 03.
+ *
+ * Returns 0: told[0] is the number of bytes written from the start of the
+ * output, 7 and 32 for each segment; later bytes stay, and so do told[1] to
+ * told[7]. The edition, the lengths' width and the head's check change, and
+ * nothing else: every level is the same, and every route of the one network is
+ * a route of the other, of the same length and level.
+ * Refused: returns 8, 16 or 18, in that order; nothing is written.
+ *
+ * A network of edition 01 has no move, since its levels would change.
+ */
+uint32_t splicereel_move_up(
+    const uint8_t *net, size_t net_length,
+    uint8_t *output, size_t output_length,
+    uint32_t told[8]);
+
+/*
+ * Move back: a kept network of edition 03 as one of edition 02.
+ *
+ * As splicereel_move_up the other way, so that told[0] is 7 and 30 for each
+ * segment. Of a network that was moved up it writes the first bytes again, and
+ * Move up does so of one that was moved back.
+ * Refused: returns 8, 16, 17 or 18, in that order; nothing is written.
+ */
+uint32_t splicereel_move_back(
+    const uint8_t *net, size_t net_length,
+    uint8_t *output, size_t output_length,
     uint32_t told[8]);
 
 #ifdef __cplusplus

@@ -18,11 +18,13 @@ enum {
 };
 
 static uint8_t stack[STACK], text[TEXT], net[SPLICEREEL_MAX_NETWORK];
+/* What is moved up, the network; and back, what comes of it, or the network where it has no move up. */
+static uint8_t up[SPLICEREEL_MAX_NETWORK], back[SPLICEREEL_MAX_NETWORK], output[SPLICEREEL_MAX_NETWORK];
 static uint32_t best[SPLICEREEL_MAX_RUNS], previous[SPLICEREEL_MAX_RUNS], told[SPLICEREEL_TOLD];
 static uint32_t list[SPLICEREEL_MAX_LIST];
 static uint16_t buffer[SPLICEREEL_MAX_RUNS];
 static uint8_t marks[SPLICEREEL_MAX_NODES];
-static size_t text_length, net_length, nodes, segments, part[SPLICEREEL_PART];
+static size_t text_length, net_length, back_length, nodes, segments, part[SPLICEREEL_PART];
 static ucontext_t here, there;
 
 static void nothing(void) {}
@@ -47,6 +49,19 @@ static void nearest(void) {
     marks[nodes - 1] = 1;
     splicereel_nearest(net, net_length, 0, 4, marks, SPLICEREEL_MAX_NODES, best, SPLICEREEL_MAX_RUNS,
                        previous, SPLICEREEL_MAX_RUNS, told);
+}
+static void move_up(void) { splicereel_move_up(up, net_length, output, sizeof output, told); }
+static void move_back(void) { splicereel_move_back(back, back_length, output, sizeof output, told); }
+
+/* A network of edition 01 is moved as one of edition 02, which has all that it has. */
+static void prepare_moves(void) {
+    memcpy(up, net, net_length);
+    if (up[1] == 1) {
+        up[1]++;
+        up[6]--;
+    }
+    memcpy(back, up, net_length);
+    back_length = splicereel_move_up(up, net_length, back, sizeof back, told) == 0 ? told[0] : net_length;
 }
 
 /* Bytes of the painted stack that the call used. */
@@ -75,6 +90,8 @@ static const struct {
     {"Least stress", least_stress},
     {"Reach map", reach_map},
     {"Nearest", nearest},
+    {"Move up", move_up},
+    {"Move back", move_back},
 };
 
 /* Prints what each call takes; how many of them take more than they may. */
@@ -104,6 +121,7 @@ int main(int count, char **arguments) {
     net_length = told[0];
     nodes = (size_t)net[2] << 8 | net[3];
     segments = (size_t)net[4] << 8 | net[5];
+    prepare_moves();
     int town = nodes <= SPLICEREEL_TOWN_NODES && segments <= SPLICEREEL_TOWN_SEGMENTS;
     printf("%s of edition %02d, %zu nodes and %zu segments\n", town ? "Town" : "County", net[1], nodes, segments);
     return print_calls(town ? SPLICEREEL_TOWN_STACK : SPLICEREEL_COUNTY_STACK) > 0;

@@ -25,10 +25,16 @@ fn counties(segments: usize) -> Vec<Subject> {
         .collect()
 }
 
+/// Every call that a county answers.
+fn calls() -> Vec<Call> {
+    let all = Call::ALL.into_iter();
+    all.filter(|call| !call.is_move()).collect()
+}
+
 /// The table over the sizes of counties, as that of towns.
 pub fn by_size() {
     let mut sizes: Vec<Vec<Subject>> = COUNTIES.map(counties).into();
-    size_table(&COUNTIES, &mut sizes);
+    size_table(&COUNTIES, &mut sizes, &calls());
     found_line(&COUNTIES, &mut sizes);
 }
 
@@ -61,7 +67,7 @@ pub fn by_copy() {
     print!("| call |");
     SIZES.iter().for_each(|size| print!(" {size} segments |"));
     println!("\n|---|{}", "---|".repeat(SIZES.len()));
-    for call in Call::ALL {
+    for call in calls() {
         print!("| {} |", call.title());
         for [county, newer] in &mut sizes {
             let times = copies(county, newer, (Side::Archive, call));

@@ -11,7 +11,7 @@ use std::hint::black_box;
 use towns::Town;
 use towns::draw::Rng;
 use towns::sizes::most_nodes;
-use towns::town::text_of;
+use towns::town::{COUNTY, NEWER, text_of};
 
 /// Which implementation is called.
 #[derive(Clone, Copy, Debug, PartialEq, Eq)]
@@ -61,6 +61,10 @@ pub enum Call {
     /// Nearest within tolerance 4, where the one node is marked that Route is
     /// asked for.
     Nearest,
+    /// Move up, about the town as edition 02.
+    MoveUp,
+    /// Move back, about the town as edition 03.
+    MoveBack,
 }
 
 /// The tolerance of [`Call::RouteNone`], [`Call::Map`] and [`Call::Nearest`].
@@ -71,7 +75,7 @@ const FARTHEST: usize = u32::MAX as usize;
 
 impl Call {
     /// Every call, Route at each tolerance.
-    pub const ALL: [Call; 14] = [
+    pub const ALL: [Call; 16] = [
         Call::Read,
         Call::ReadLast,
         Call::Refused,
@@ -86,7 +90,14 @@ impl Call {
         Call::RouteNone,
         Call::Map,
         Call::Nearest,
+        Call::MoveUp,
+        Call::MoveBack,
     ];
+
+    /// Whether it is a move, which takes towns alone.
+    pub fn is_move(self) -> bool {
+        matches!(self, Call::MoveUp | Call::MoveBack)
+    }
 
     /// The name on a command line.
     pub fn name(self) -> &'static str {
@@ -105,6 +116,8 @@ impl Call {
             Call::RouteNone => "route-none",
             Call::Map => "map",
             Call::Nearest => "nearest",
+            Call::MoveUp => "move-up",
+            Call::MoveBack => "move-back",
         }
     }
 
@@ -122,6 +135,8 @@ impl Call {
             Call::RouteNone => "Route, tolerance 4, none".into(),
             Call::Map => "Reach map, tolerance 4, whole town".into(),
             Call::Nearest => "Nearest, tolerance 4, one node marked".into(),
+            Call::MoveUp => "Move up".into(),
+            Call::MoveBack => "Move back".into(),
         }
     }
 }
@@ -141,6 +156,9 @@ pub struct Subject {
     lone: Vec<u8>,
     /// That node.
     lonely: usize,
+    /// The network as edition 02 and as edition 03.
+    newer: Vec<u8>,
+    county: Vec<u8>,
     segments: Vec<usize>,
     movements: Vec<(usize, usize)>,
     pairs: Vec<(usize, usize)>,
@@ -164,6 +182,7 @@ impl Subject {
             nodes: lonely as u16 + 1,
             ..town.clone()
         };
+        let [newer, county] = [NEWER, COUNTY].map(|of| town.clone().edition(of).bytes());
         Subject {
             lone: lone.bytes(),
             lonely,
@@ -174,12 +193,14 @@ impl Subject {
                 .collect(),
             segments: (0..QUESTIONS).map(|_| rng.below(segments)).collect(),
             movements: movements(&mut rng, &net),
-            output: vec![0; net.len()],
+            output: vec![0; county.len()],
             best: vec![0; 2 * segments],
             previous: vec![0; 2 * segments],
             buffer: vec![0; 2 * segments],
             list: vec![0; 2 * (nodes + 1)],
             marks: vec![0; nodes + 1],
+            newer,
+            county,
             net,
         }
     }
@@ -195,7 +216,7 @@ impl Subject {
 
     /// Makes a call with one of the questions; gives the refusal's number or
     /// 0, and whether there was something to tell: for a search, a route; for a
-    /// refused line, its bytes.
+    /// refused line, its bytes; for a move, a network.
     #[inline]
     pub fn ask(&mut self, side: Side, call: Call, question: usize) -> (u32, bool) {
         let question = question % QUESTIONS;
@@ -221,6 +242,8 @@ impl Subject {
                 let (first, second) = self.movements[question];
                 ffi::judge_movement(net, first, second, &mut told)
             }
+            Call::MoveUp => ffi::move_up(black_box(&self.newer), &mut self.output, &mut told),
+            Call::MoveBack => ffi::move_back(black_box(&self.county), &mut self.output, &mut told),
             _ => self.archive_search(call, question, &mut told),
         };
         (number, number == 0 && told[0] != 0)
@@ -273,6 +296,10 @@ impl Subject {
             Call::Movement => {
                 let (first, second) = self.movements[question];
                 twin::judge_movement(net, first, second).map(|_| true)
+            }
+            Call::MoveUp => twin::move_up(black_box(&self.newer), &mut self.output).map(|n| n > 0),
+            Call::MoveBack => {
+                twin::move_back(black_box(&self.county), &mut self.output).map(|n| n > 0)
             }
             _ => self.twin_search(call, question),
         };
@@ -350,6 +377,7 @@ fn movements(rng: &mut Rng, net: &[u8]) -> Vec<(usize, usize)> {
 mod tests {
     use super::{Call, QUESTIONS, Side, Subject};
     use towns::draw::{county_grid, mixed_grid};
+    use towns::sizes::MOST_SEGMENTS;
     use towns::town::COUNTY;
 
     /// What is timed is the same work: both sides answer every question alike.
@@ -363,12 +391,15 @@ mod tests {
             county_grid(11, 1_100),
         ] {
             let mut subject = Subject::new(&town, 11);
+            let large = town.segments.len() > MOST_SEGMENTS;
             for call in Call::ALL {
                 let meant = match call {
                     Call::ReadLast => (2, false),
                     Call::Refused => (14, false),
                     Call::RefusedLast => (2, true),
                     Call::RouteNone => (0, false),
+                    Call::MoveUp if large => (8, false),
+                    Call::MoveBack if large => (17, false),
                     _ => (0, true),
                 };
                 let mut found = 0;

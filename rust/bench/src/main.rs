@@ -155,18 +155,18 @@ fn by_size() {
         .iter()
         .map(|&segments| subjects(|seed| draw::mixed_grid(seed, segments)))
         .collect();
-    size_table(&SIZES, &mut sizes);
+    size_table(&SIZES, &mut sizes, &Call::ALL);
     found_line(&SIZES, &mut sizes);
 }
 
-/// A row for each call, with a cell for the towns of each size.
-fn size_table(segments: &[usize], sizes: &mut [Vec<Subject>]) {
+/// A row for each of some calls, with a cell for the towns of each size.
+fn size_table(segments: &[usize], sizes: &mut [Vec<Subject>], calls: &[Call]) {
     print!("| call |");
     segments
         .iter()
         .for_each(|size| print!(" {size} segments |"));
     println!(" growth |\n|---|{}---|", "---|".repeat(segments.len()));
-    for call in Call::ALL {
+    for &call in calls {
         print!("| {} |", call.title());
         cells(sizes, sides(call));
     }
@@ -189,7 +189,7 @@ fn found_line(segments: &[usize], sizes: &mut [Vec<Subject>]) {
 
 /// The table over shapes, at the most segments that a town of each can have.
 fn by_shape() {
-    const CALLS: [Call; 8] = [
+    const CALLS: [Call; 10] = [
         Call::Read,
         Call::Segment,
         Call::Route(2),
@@ -198,6 +198,8 @@ fn by_shape() {
         Call::Least,
         Call::Map,
         Call::Nearest,
+        Call::MoveUp,
+        Call::MoveBack,
     ];
     print!("| shape | nodes, segments |");
     CALLS.iter().for_each(|call| print!(" {} |", call.title()));
@@ -259,6 +261,7 @@ fn how() {
          Nothing is cleared before a call: scratch and buffer hold what the call before left. \
          Judge a segment and Judge a movement include the test of the kept bytes. \
          Read that is refused and Refused line that tells the last take the same text, with a wrong check in its last line. \
+         Move up is asked about each town as edition 02 and Move back about it as edition 03, and each includes the test of the kept bytes. \
          A reach map has the greatest length 4294967295; Nearest is asked for the node that Route is asked for, and Route finds none \
          where it is asked for a node more, which no street leads to.\n",
         SAMPLE / 1e3,

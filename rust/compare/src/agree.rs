@@ -1,5 +1,6 @@
 //! Whether two sides agree on a question, in everything that can be seen.
 
+use crate::calls::Way;
 use crate::question::{Question, Seen};
 use oracle::Net;
 use splicereel::ffi::Told;
@@ -31,7 +32,11 @@ pub fn agree(
     holds(archive.told.guards_hold(), "a guard of told was written")?;
     same_part(archive, twin)?;
     match question {
-        Question::Read { .. } => read(archive, twin),
+        Question::Read { .. } => written(archive, twin),
+        Question::Move { way, room } => {
+            written(archive, twin)?;
+            moved(way, room, archive)
+        }
         Question::Search { .. } if archive.number == 0 => search(question, town, archive, twin),
         Question::Map { .. } | Question::Nearest { .. } if archive.number == 0 => {
             reach(question, archive, twin)
@@ -112,7 +117,9 @@ fn same_told(archive: &Seen, must: &Told) -> Result<(), Complaint> {
     Err(format!("told {:?}, must be {must:?}", archive.told.now()))
 }
 
-fn read(archive: &Seen, twin: &Seen) -> Result<(), Complaint> {
+/// Read and the moves: an output holds the bytes that are told, and nothing
+/// else was written to it.
+fn written(archive: &Seen, twin: &Seen) -> Result<(), Complaint> {
     same_told(archive, &twin.told())?;
     let written = match archive.number {
         0 => archive.told()[0] as usize,
@@ -120,12 +127,27 @@ fn read(archive: &Seen, twin: &Seen) -> Result<(), Complaint> {
     };
     holds(
         archive.output.untouched_but(0, written),
-        "the output was written past the bytes kept",
+        "the output was written past the bytes told",
     )?;
     holds(
         archive.output.now() == twin.output.now(),
         "the output holds other bytes",
     )
+}
+
+/// A moved network must be the slow implementation's too.
+fn moved(way: Way, room: usize, archive: &Seen) -> Result<(), Complaint> {
+    let net = archive.bytes.now();
+    let slow = match way {
+        Way::Up => oracle::move_up(net, room),
+        Way::Back => oracle::move_back(net, room),
+    };
+    let same = match &slow {
+        Ok(bytes) => archive.number == 0 && archive.output.now().starts_with(bytes),
+        Err(number) => archive.number == u32::from(*number),
+    };
+    let slow = slow.map(|bytes| bytes.len());
+    holds(same, &format!("the slow implementation says {slow:?}"))
 }
 
 /// A search that answered: none must be none, and a route is ridden.

@@ -1,6 +1,7 @@
 //! The calls as C sees them, on either side.
 
 use splicereel::ffi::{self, Lent, Part, Scratch, Told};
+use towns::town::{COUNTY, NEWER};
 
 /// Where a reach map starts, and how far it goes.
 #[derive(Clone, Copy, Debug, PartialEq, Eq)]
@@ -13,7 +14,42 @@ pub struct Reach {
     pub greatest: usize,
 }
 
-/// An implementation of the eight calls: each returns 0 or a refusal's number
+/// Which way a network is moved.
+#[derive(Clone, Copy, Debug, PartialEq, Eq)]
+pub enum Way {
+    /// From edition 02 to edition 03.
+    Up,
+    /// From edition 03 to edition 02.
+    Back,
+}
+
+impl Way {
+    /// Both ways.
+    pub const BOTH: [Way; 2] = [Way::Up, Way::Back];
+
+    /// The other way.
+    pub fn other(self) -> Way {
+        match self {
+            Way::Up => Way::Back,
+            Way::Back => Way::Up,
+        }
+    }
+
+    /// The edition that it leads from.
+    pub fn from(self) -> u8 {
+        self.other().to()
+    }
+
+    /// The edition that it leads to.
+    pub fn to(self) -> u8 {
+        match self {
+            Way::Up => COUNTY,
+            Way::Back => NEWER,
+        }
+    }
+}
+
+/// An implementation of the ten calls: each returns 0 or a refusal's number
 /// and writes what else it tells into `told`, or for a refused line into
 /// `part`.
 pub trait Calls {
@@ -54,6 +90,8 @@ pub trait Calls {
         scratch: Scratch<'_>,
         told: &mut Told,
     ) -> u32;
+    /// Move up or Move back.
+    fn move_network(&self, way: Way, net: &[u8], output: &mut [u8], told: &mut Told) -> u32;
 }
 
 /// The proved archive.
@@ -117,6 +155,13 @@ impl Calls for Archive {
         told: &mut Told,
     ) -> u32 {
         ffi::nearest(net, from, tolerance, marks, scratch, told)
+    }
+
+    fn move_network(&self, way: Way, net: &[u8], output: &mut [u8], told: &mut Told) -> u32 {
+        match way {
+            Way::Up => ffi::move_up(net, output, told),
+            Way::Back => ffi::move_back(net, output, told),
+        }
     }
 }
 
@@ -236,5 +281,13 @@ impl Calls for Twin {
                 answer.map(|found| found.map_or([0; 3], |(node, feet)| [1, node as u32, feet])),
             ),
         }
+    }
+
+    fn move_network(&self, way: Way, net: &[u8], output: &mut [u8], told: &mut Told) -> u32 {
+        let written = match way {
+            Way::Up => twin::move_up(net, output),
+            Way::Back => twin::move_back(net, output),
+        };
+        tell(told, written.map(|written| [written as u32])) // as few as Read's
     }
 }

@@ -5,7 +5,7 @@ use crate::places::{counts, feet};
 use crate::question::{Question, Seen};
 use crate::reached::{ROOMS, name, position};
 use crate::rounds::{self, Done, Subject, pair, two_nodes};
-use crate::{Comparer, lines, reach};
+use crate::{Comparer, lines, moves, reach};
 use std::collections::BTreeSet;
 use towns::draw::{self, Rng, Shape, Spot, damage, damage_kept};
 use towns::sizes::{COUNTY_NODES, COUNTY_SEGMENTS, MOST_NODES, MOST_SEGMENTS, most_feet};
@@ -43,6 +43,7 @@ pub fn play(comparer: &mut Comparer<'_>, rng: &mut Rng, turn: u64) -> Done {
         rounds::odd_searches_of(comparer, rng, &subject, kind)?;
         reach::some_odd(comparer, rng, &subject)?;
     }
+    moves::of_county(comparer, rng, &subject)?;
     no_networks(comparer, rng, subject)
 }
 
@@ -124,6 +125,7 @@ fn no_networks(comparer: &mut Comparer<'_>, rng: &mut Rng, mut subject: Subject)
         let question = Question::Segment { segment: 0 };
         comparer.compare(rng, None, &subject.bytes, question)?;
         rounds::odd_searches_of(comparer, rng, &subject, "exact")?;
+        moves::asked_twice(comparer, rng, &subject.bytes)?;
     }
     Ok(())
 }

@@ -8,7 +8,7 @@ use oracle::Net;
 use splicereel::ffi::Told;
 use towns::draw::Rng;
 use towns::edition::{EDITIONS, all_marks};
-use towns::sizes::{most_feet, most_nodes, most_segments};
+use towns::sizes::{most_nodes, most_segments};
 use towns::town::{IMPROVED_SIGNAL, NEWER, OLDER, SIGNAL, Segment, TURN_LANE, Town, end};
 
 /// A case in an edition.
@@ -30,9 +30,9 @@ pub fn older(mut town: Town) -> Option<Town> {
     if size.0 > most_nodes(OLDER) || size.1 > most_segments(OLDER) {
         return None;
     }
+    town = town.shortened(OLDER);
     for street in &mut town.segments {
         street.marks &= all_marks(OLDER);
-        street.length = street.length.min(most_feet(OLDER));
         for approach in [&mut street.at_b, &mut street.at_a] {
             if approach.control == IMPROVED_SIGNAL {
                 approach.control = SIGNAL;

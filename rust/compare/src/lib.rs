@@ -16,11 +16,13 @@
 
 mod agree;
 pub mod calls;
+mod copies;
 mod counties;
 mod editions;
 mod exits;
 mod limits;
 mod lines;
+mod moves;
 mod places;
 pub mod question;
 mod reach;
@@ -109,7 +111,7 @@ impl<'c> Comparer<'c> {
     }
 
     /// One comparison; gives what the archive did. `town` is the network that
-    /// `bytes` are, where they are one.
+    /// `bytes` are, where they are one and levels or routes are asked for.
     fn compare(
         &mut self,
         rng: &mut Rng,

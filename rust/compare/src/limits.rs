@@ -1,18 +1,17 @@
 //! What is asked at the limits that editions have for sizes: counts of a head,
-//! lengths, the width of a frame; and about a town as edition 02 and as edition
-//! 03, which must have the same answers.
+//! lengths, the width of a frame.
 
 use crate::editions::{both_say, of, older};
-use crate::question::{Question, Seen};
-use crate::rounds::{Done, Subject, enough, next_run, pair, two_nodes};
-use crate::{Comparer, Mismatch, lines};
+use crate::question::Question;
+use crate::rounds::{Done, Subject, pair};
+use crate::{Comparer, lines, moves};
 use oracle::Net;
 use towns::draw::Rng;
 use towns::edition::EDITIONS;
 use towns::sizes::{
     HEAD, MOST_BYTES, length_bytes, most_feet, most_nodes, most_segments, segment_bytes,
 };
-use towns::town::{COUNTY, NEWER, Town, head_of, text_of};
+use towns::town::{COUNTY, NEWER, head_of, text_of};
 
 /// Counts that a head is asked with.
 const COUNTS: [u16; 7] = [0, 1, 1_000, 1_001, 8_000, 8_001, u16::MAX];
@@ -54,6 +53,12 @@ pub fn heads(comparer: &mut Comparer<'_>, rng: &mut Rng) -> Done {
         let judge = comparer.compare(rng, net.as_ref(), &head, question)?;
         let case = count_case(counted, count, [read, judge.number]);
         comparer.reached.count(of(edition, &case));
+        let kinds = if segments == 0 {
+            &moves::ROOMS[..]
+        } else {
+            &["0"]
+        };
+        moves::asked(comparer, rng, &head, kinds)?;
     }
     Ok(())
 }
@@ -143,6 +148,7 @@ pub fn widths(comparer: &mut Comparer<'_>, rng: &mut Rng, subject: &Subject) -> 
         let judge = comparer.compare(rng, net.as_ref(), &bytes, question)?;
         let case = width_case(segment_bytes(width), [read, judge.number]);
         comparer.reached.count(of(edition, &case));
+        moves::asked_twice(comparer, rng, &bytes)?;
     }
     Ok(())
 }
@@ -168,158 +174,9 @@ fn says_of_width(edition: u8, width: u8) -> [u32; 2] {
     }
 }
 
-/// A town as edition 02 and as edition 03.
-struct Copies<'a, 'c> {
-    comparer: &'a mut Comparer<'c>,
-    newer: Subject,
-    county: Subject,
-}
-
-/// What copies have to be asked.
-const ASKED: [&str; 8] = [
-    "segment refused 0",
-    "segment refused 12",
-    "movement refused 0",
-    "movement refused 12",
-    "route refused 0",
-    "least refused 0",
-    "map refused 0",
-    "nearest refused 0",
-];
-
-fn copy_case(asked: &str) -> String {
-    format!("02 and 03 agree: {asked}")
-}
-
-/// A town of edition 02 and its copy in edition 03: every answer must be equal,
-/// and a route that one draws be one of the other's.
-pub fn copies(comparer: &mut Comparer<'_>, rng: &mut Rng, subject: &Subject) -> Done {
-    let Some(town) = with_lengths_of_02(subject.town.clone()) else {
-        return Ok(());
-    };
-    let [newer, county] = [NEWER, COUNTY].map(|e| Subject::new(town.clone().edition(e)));
-    let mut copies = Copies {
-        comparer,
-        newer,
-        county,
-    };
-    let (segments, runs) = (town.segments.len(), 2 * town.segments.len());
-    for segment in [rng.below(segments), rng.below(segments), segments] {
-        copies.both(rng, Question::Segment { segment })?;
-    }
-    for first in [rng.below(runs), rng.below(runs), rng.below(runs)] {
-        let second = next_run(rng, &town, first).unwrap_or(first);
-        copies.both(rng, Question::Movement { first, second })?;
-    }
-    let (from, to) = two_nodes(rng, subject);
-    for tolerance in [Some(1), Some(2), Some(3), Some(4), None] {
-        copies.routes(rng, from, to, tolerance)?;
-    }
-    copies.reach(rng, from)
-}
-
-/// The town with values and lengths that edition 02 has, if it is none of more
-/// nodes or segments.
-fn with_lengths_of_02(mut town: Town) -> Option<Town> {
-    let fits =
-        usize::from(town.nodes) <= most_nodes(NEWER) && town.segments.len() <= most_segments(NEWER);
-    for street in &mut town.segments {
-        street.length = street.length.min(most_feet(NEWER));
-    }
-    fits.then_some(town)
-}
-
-impl Copies<'_, '_> {
-    /// A question about both, which must have what is told in common but for what
-    /// is free; what each said.
-    fn both(&mut self, rng: &mut Rng, question: Question<'_>) -> Result<[Seen; 2], Box<Mismatch>> {
-        let mut ask = |subject: &Subject, rng: &mut Rng| {
-            let (net, bytes) = (subject.net.as_ref(), &subject.bytes);
-            self.comparer.compare(rng, net, bytes, question)
-        };
-        // The same garbage is lent for both, so that all that is told can be
-        // held together.
-        let (one, other) = (ask(&self.newer, &mut rng.clone())?, ask(&self.county, rng)?);
-        let (mut told, mut copys) = (one.told(), other.told());
-        if let Question::Search { .. } = question {
-            // Count and level are the route's own.
-            (told[1], told[3], copys[1], copys[3]) = (0, 0, 0, 0);
-        }
-        if (one.number, told) != (other.number, copys) || one.entries() != other.entries() {
-            let question = format!("{question:?}: {one}; of edition 03 {other}");
-            let complaint = "another answer of edition 02 than of edition 03";
-            let bytes = &self.county.bytes;
-            return Err(self.comparer.disagreement(bytes, question, complaint));
-        }
-        let case = format!("{} refused {}", crate::reached::name(question), one.number);
-        self.comparer.reached.count(copy_case(&case));
-        Ok([one, other])
-    }
-
-    /// A route of each, ridden in the other.
-    fn routes(&mut self, rng: &mut Rng, from: usize, to: usize, tolerance: Option<usize>) -> Done {
-        let lengths = enough(rng, self.newer.runs());
-        let question = Question::Search {
-            from,
-            to,
-            tolerance,
-            lengths,
-        };
-        let [one, other] = self.both(rng, question)?;
-        let told = one.told();
-        if told[0] == 0 {
-            return Ok(());
-        }
-        let within = tolerance.unwrap_or(told[4] as usize) as u8;
-        for (seen, subject) in [(&one, &self.county), (&other, &self.newer)] {
-            let (told, net) = (seen.told(), subject.net.as_ref());
-            let (count, level) = (told[1] as usize, told[3] as u8);
-            let runs = seen.lent.runs(count);
-            let ridden = net.map_or(Err("no network".into()), |net| {
-                net.check_route(from, to, within, runs, count, told[2], level)
-            });
-            if let Err(complaint) = ridden {
-                let question = format!("{question:?}: {complaint}");
-                let complaint = "a route in one edition is none in the other";
-                return Err(self
-                    .comparer
-                    .disagreement(&subject.bytes, question, complaint));
-            }
-        }
-        Ok(())
-    }
-
-    /// A map and the nearest of some nodes.
-    fn reach(&mut self, rng: &mut Rng, from: usize) -> Done {
-        let (runs, nodes) = (self.newer.runs(), self.newer.nodes());
-        let tolerance = rng.range(1, 4);
-        let reach = crate::calls::Reach {
-            from,
-            tolerance,
-            greatest: rng.pick(&[500, 5_000, 50_000, usize::MAX]),
-        };
-        let scratch = [runs, runs];
-        let list = 2 * nodes;
-        let question = Question::Map {
-            reach,
-            scratch,
-            list,
-        };
-        self.both(rng, question)?;
-        let marks: Vec<u8> = (0..nodes).map(|_| u8::from(rng.chance(20))).collect();
-        let question = Question::Nearest {
-            from,
-            tolerance,
-            marks: &marks,
-            scratch,
-        };
-        self.both(rng, question).map(|_| ())
-    }
-}
-
 /// Everything that comparisons have to show of these limits.
 pub fn must_show() -> Vec<String> {
-    let mut all: Vec<String> = ASKED.iter().map(|asked| copy_case(asked)).collect();
+    let mut all = Vec::new();
     for edition in EDITIONS {
         for (counted, count) in COUNTED.iter().flat_map(|c| COUNTS.map(|count| (c, count))) {
             let said = says_of_count(edition, counted, count);

@@ -33,14 +33,23 @@ pub fn street<'f>(net: &[u8], frame: &'f [u8]) -> &'f [u8] {
 
 /// The feet of a segment.
 pub fn feet(net: &[u8], segment: usize) -> u32 {
-    let bytes = &frame(net, segment)[LENGTH..][..length_bytes(net[1])];
+    length(net, frame(net, segment))
+}
+
+/// The feet that stand in a frame of a network.
+pub fn length(net: &[u8], frame: &[u8]) -> u32 {
+    let bytes = &frame[LENGTH..][..length_bytes(net[1])];
     bytes
         .iter()
         .fold(0, |feet, &byte| feet << 8 | u32::from(byte))
 }
 
-/// The nodes and segments of a network, as its head has them.
+/// The nodes and segments of a network, as its head has them; 0 where bytes end
+/// before.
 pub fn counts(net: &[u8]) -> (usize, usize) {
-    let field = |at: usize| usize::from(u16::from_be_bytes([net[at], net[at + 1]]));
+    let field = |at: usize| match net.get(at..at + 2) {
+        Some(&[high, low]) => usize::from(u16::from_be_bytes([high, low])),
+        _ => 0,
+    };
     (field(2), field(4))
 }

@@ -1,6 +1,6 @@
 //! One call with all its arguments, and what can be seen of it afterwards.
 
-use crate::calls::{Calls, Reach};
+use crate::calls::{Calls, Reach, Way};
 use splicereel::ffi::{Part, Scratch, Told};
 use std::fmt;
 use std::hint::black_box;
@@ -64,6 +64,13 @@ pub enum Question<'q> {
         /// The numbers of each scratch slice.
         scratch: [usize; 2],
     },
+    /// Move up or Move back, with an output of so many bytes.
+    Move {
+        /// Which way.
+        way: Way,
+        /// The output's length.
+        room: usize,
+    },
 }
 
 impl Question<'_> {
@@ -91,7 +98,7 @@ pub struct Seen {
     pub part: Guarded<usize>,
     /// The text or the network.
     pub bytes: Guarded<u8>,
-    /// Read's output.
+    /// The output of Read, or of a move.
     pub output: Guarded<u8>,
     /// What was lent to a search.
     pub lent: Lent,
@@ -149,7 +156,7 @@ pub fn ask(calls: &dyn Calls, bytes: &[u8], question: Question<'_>, garbage: u64
     let mut rng = Rng::new(garbage);
     let (mut room, mut list, mut marks) = (0, 0, &[][..]);
     match question {
-        Question::Read { room: length } => room = length,
+        Question::Read { room: length } | Question::Move { room: length, .. } => room = length,
         Question::Map { list: length, .. } => list = length,
         Question::Nearest { marks: all, .. } => marks = all,
         _ => {}
@@ -206,5 +213,6 @@ fn call(calls: &dyn Calls, question: Question<'_>, seen: &mut Seen) -> u32 {
             let marks = black_box(seen.marks.lend());
             calls.nearest(bytes, from, tolerance, marks, scratch, told)
         }
+        Question::Move { way, .. } => calls.move_network(way, bytes, seen.output.lend(), told),
     }
 }

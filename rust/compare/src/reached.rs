@@ -5,7 +5,7 @@ use crate::lines::{self, EDGES, LENGTHS};
 use crate::places::{self, CONTROLS, FORM, MARKS, REACH, SPEED, counts};
 use crate::question::{Question, Seen};
 use crate::reach::{self, GREATEST, LISTS, MARKED, SCRATCH, TIES, VALUES};
-use crate::{counties, exits, limits};
+use crate::{copies, counties, exits, limits, moves};
 use std::collections::BTreeMap;
 use std::fmt;
 use towns::draw::Shape;
@@ -50,6 +50,7 @@ impl Reached {
                 let found = if told[0] == 1 { "found" } else { "none" };
                 format!("nearest tolerance {tolerance} {found}")
             }
+            (Question::Move { .. }, _) => format!("{call} answered"),
         });
         self.details(bytes, question, seen);
         for case in counties::shown(bytes, question, seen) {
@@ -75,6 +76,11 @@ impl Reached {
             }
             for exit in exits {
                 self.count(exit);
+            }
+        }
+        if let Question::Move { way, room } = question {
+            for case in moves::shown(bytes, way, room, seen.number) {
+                self.count(case);
             }
         }
         if let (Question::Search { .. }, 0, 1) = (question, seen.number, told[0]) {
@@ -149,6 +155,7 @@ pub fn name(question: Question<'_>) -> &'static str {
         Question::Search { .. } => "least",
         Question::Map { .. } => "map",
         Question::Nearest { .. } => "nearest",
+        Question::Move { way, .. } => moves::name(way),
     }
 }
 
@@ -330,6 +337,8 @@ fn must_reach() -> Vec<String> {
         ("least", &[8, 9, 11]),
         ("map", &[8, 9, 10, 11, 15]),
         ("nearest", &[8, 9, 10, 11, 15]),
+        ("move up", &[8, 16, 18]),
+        ("move back", &[8, 16, 17, 18]),
     ] {
         all.extend(
             numbers
@@ -341,6 +350,8 @@ fn must_reach() -> Vec<String> {
     all.extend(editions::must_show());
     all.extend(counties::must_show());
     all.extend(limits::must_show());
+    all.extend(moves::must_show());
+    all.extend(copies::must_show());
     all.extend(exits::must_show());
     for call in ["route", "least"] {
         all.extend(["empty", "ridden"].map(|size| format!("{call} {size} route")));

@@ -1,9 +1,9 @@
 //! What one round asks: a town of some shape, its text good and damaged, its
-//! judgements, its routes and their reach, and arguments of every kind.
+//! judgements, its routes and their reach, its moves, and arguments of every kind.
 
 use crate::question::Question;
 use crate::reached::ROOMS;
-use crate::{Comparer, Mismatch, counties, editions, limits, lines, reach};
+use crate::{Comparer, Mismatch, counties, editions, limits, lines, moves, reach};
 use oracle::Net;
 use splicereel::ffi::Told;
 use towns::draw::{self, Rng, Shape, Spot, damage, damage_kept};
@@ -63,7 +63,7 @@ pub fn play(comparer: &mut Comparer<'_>, rng: &mut Rng) -> Done {
     limits::heads(comparer, rng)?;
     limits::lengths(comparer, rng, &subject)?;
     limits::widths(comparer, rng, &subject)?;
-    limits::copies(comparer, rng, &subject)?;
+    moves::moves(comparer, rng, &subject)?;
     narrow_parking(comparer, rng, subject)?;
     reach::ties(comparer, rng)
 }
@@ -130,6 +130,7 @@ fn noise(comparer: &mut Comparer<'_>, rng: &mut Rng, subject: &Subject) -> Done 
         let segment = rng.below(4);
         let town = Net::parse(&kept);
         comparer.compare(rng, town.as_ref(), &kept, Question::Segment { segment })?;
+        moves::asked_twice(comparer, rng, &kept)?;
     }
     for digits in [&b"0012AF\n"[..], b"0123456789ABCDEFabcg \r\n\0\xFF"] {
         let length = rng.below(150);
@@ -407,6 +408,7 @@ fn no_networks(comparer: &mut Comparer<'_>, rng: &mut Rng, subject: &Subject) ->
             let question = odd_search(rng, subject, kind, least);
             comparer.compare(rng, None, &bad, question)?;
         }
+        moves::asked_twice(comparer, rng, &bad)?;
         let bad = Subject {
             town: subject.town.clone(),
             bytes: bad,

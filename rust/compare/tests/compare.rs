@@ -4,13 +4,13 @@
 mod misread;
 
 use compare::Comparer;
-use compare::calls::{Archive, Calls, Reach, Twin};
+use compare::calls::{Archive, Calls, Reach, Twin, Way};
 use splicereel::ffi::{Lent, Part, Scratch, Told};
 use towns::draw;
 use towns::sizes::{HEAD, segment_bytes};
 use towns::town::{COUNTY, OLDER, SIGNAL};
 
-/// Rounds of about 510 comparisons each; a mismatch tells how to replay it.
+/// Rounds of about 735 comparisons each; a mismatch tells how to replay it.
 const ROUNDS: u64 = 1_200;
 
 #[test]
@@ -139,9 +139,51 @@ enum Fault {
     NearestIn31Bits,
     EachStreetOnce,
     OutputOfShortFrames,
+    HeadNotMoved,
+    CheckNotMoved,
+    CheckMovedTheOtherWay,
+    EachCheckMoved,
+    ZerosAfterTheLength,
+    ZerosBeforeTheCheck,
+    MovedLengthInAByte,
+    LastFrameNotMoved,
+    FirstFrameTwice,
+    MovedPastTheEnd,
+    NothingWithoutSegments,
+    ToldTheSource,
+    ToldBeyondMoved,
+    ToldOn18,
+    OutputOn8,
+    OutputOn16,
+    OutputOn17,
+    OutputOn18,
+    OldestMovedUp,
+    CountyMovedUp,
+    NewerMovedBack,
+    NodesNotLimited,
+    SegmentsNotLimited,
+    LengthsNotLimited,
+    LengthsTo65535,
+    LowBytesLimited,
+    FirstLengthNotLimited,
+    LastLengthNotLimited,
+    NodesTo999,
+    SegmentsTo999,
+    LengthsTo52799,
+    LargerIsNoNetwork,
+    ExactIsTooShort,
+    RoomOfTheSource,
+    ShortBeforeAbove,
+    ShortBeforeLonger,
+    AboveBeforeEdition,
+    ShortBeforeEdition,
+    EditionBeforeNetwork,
+    AboveBeforeNetwork,
+    ShortBeforeNetwork,
+    AboveAndShortExchanged,
 }
 
-const FAULTS: [Fault; 107] = [
+const FAULTS: [Fault; 149] = [
     Fault::Line,
     Fault::ByteKept,
     Fault::OutputPastTheEnd,
@@ -249,6 +291,48 @@ const FAULTS: [Fault; 107] = [
     Fault::NearestIn31Bits,
     Fault::EachStreetOnce,
     Fault::OutputOfShortFrames,
+    Fault::HeadNotMoved,
+    Fault::CheckNotMoved,
+    Fault::CheckMovedTheOtherWay,
+    Fault::EachCheckMoved,
+    Fault::ZerosAfterTheLength,
+    Fault::ZerosBeforeTheCheck,
+    Fault::MovedLengthInAByte,
+    Fault::LastFrameNotMoved,
+    Fault::FirstFrameTwice,
+    Fault::MovedPastTheEnd,
+    Fault::NothingWithoutSegments,
+    Fault::ToldTheSource,
+    Fault::ToldBeyondMoved,
+    Fault::ToldOn18,
+    Fault::OutputOn8,
+    Fault::OutputOn16,
+    Fault::OutputOn17,
+    Fault::OutputOn18,
+    Fault::OldestMovedUp,
+    Fault::CountyMovedUp,
+    Fault::NewerMovedBack,
+    Fault::NodesNotLimited,
+    Fault::SegmentsNotLimited,
+    Fault::LengthsNotLimited,
+    Fault::LengthsTo65535,
+    Fault::LowBytesLimited,
+    Fault::FirstLengthNotLimited,
+    Fault::LastLengthNotLimited,
+    Fault::NodesTo999,
+    Fault::SegmentsTo999,
+    Fault::LengthsTo52799,
+    Fault::LargerIsNoNetwork,
+    Fault::ExactIsTooShort,
+    Fault::RoomOfTheSource,
+    Fault::ShortBeforeAbove,
+    Fault::ShortBeforeLonger,
+    Fault::AboveBeforeEdition,
+    Fault::ShortBeforeEdition,
+    Fault::EditionBeforeNetwork,
+    Fault::AboveBeforeNetwork,
+    Fault::ShortBeforeNetwork,
+    Fault::AboveAndShortExchanged,
 ];
 
 /// The twin with one fault.
@@ -491,6 +575,10 @@ impl Calls for Faulty {
             _ => {}
         }
         self.spoil_entries(number, marks.len() < nodes, scratch, told)
+    }
+
+    fn move_network(&self, way: Way, net: &[u8], output: &mut [u8], told: &mut Told) -> u32 {
+        self.moved(way, net, output, told)
     }
 }
 

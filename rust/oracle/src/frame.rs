@@ -42,6 +42,14 @@ pub(crate) fn sum_is_zero(bytes: &[u8]) -> bool {
     bytes.iter().map(|&b| u64::from(b)).sum::<u64>() % 256 == 0
 }
 
+/// The bytes of a frame's fields, and a check by which all sum to 0 modulo 256.
+pub(crate) fn with_check(fields: &[&[u8]]) -> Vec<u8> {
+    let mut frame = fields.concat();
+    let sum = frame.iter().map(|&b| u64::from(b)).sum::<u64>() % 256;
+    frame.push(((256 - sum) % 256) as u8);
+    frame
+}
+
 /// What a head says.
 #[derive(Clone, Copy, Debug)]
 pub(crate) struct Head {
@@ -57,14 +65,21 @@ impl Head {
         let mut t = Taker(head.iter());
         let _kind = t.one()?;
         let edition = within(t.one()?, 1, 3)?;
-        let most = MOST[edition as usize - 1];
-        let nodes = within(t.two()?, 1, most)?;
-        let segments = within(t.two()?, 0, most)? as usize;
-        Some(Head {
+        let nodes = t.two()?;
+        let segments = t.two()? as usize;
+        let head = Head {
             edition,
             nodes,
             segments,
-        })
+        };
+        head.in_limits().then_some(head)
+    }
+
+    /// Whether a network of its edition may have so many nodes and segments.
+    pub fn in_limits(self) -> bool {
+        let most = MOST[self.edition as usize - 1];
+        let segments = self.segments as u32;
+        within(self.nodes, 1, most).is_some() && within(segments, 0, most).is_some()
     }
 
     /// Bytes of a segment frame of this edition.

@@ -63,6 +63,11 @@ impl Net {
         2 * self.streets.len()
     }
 
+    /// The length of each segment.
+    pub(crate) fn feet(&self) -> Vec<u32> {
+        self.streets.iter().map(|street| street.length).collect()
+    }
+
     /// Level and measure of a segment, or 12.
     pub fn segment(&self, s: usize) -> Result<(u8, u8), u8> {
         self.streets.get(s).map(Street::judge).ok_or(12)

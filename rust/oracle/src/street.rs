@@ -21,7 +21,7 @@ const UNCROSSED: [&[(u32, u8)]; 3] = [
 /// The greatest sum of marks, by edition - 1.
 const MOST_MARKS: [u32; 3] = [1 + 2 + 4 + 8, 1 + 2 + 4 + 8 + 16, 1 + 2 + 4 + 8 + 16];
 /// The greatest length in feet, by edition - 1.
-const MOST_FEET: [u32; 3] = [52_800, 52_800, 264_000];
+pub(crate) const MOST_FEET: [u32; 3] = [52_800, 52_800, 264_000];
 /// Crossing level by control - 2, band and lanes crossed (index 0 unused).
 const CROSSED: [[[u8; 13]; 4]; 3] = [
     [

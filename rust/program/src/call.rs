@@ -1,6 +1,7 @@
 //! What the words of the command line ask.
 
 use crate::command::{Command, JSON, NEAREST_FIRST, REACH};
+use crate::edition::{Edition, MOVED, NO_MOVE, listed};
 use crate::fault::{Fault, quoted};
 use crate::near::meant;
 use splicereel::Level;
@@ -20,6 +21,8 @@ pub struct Call {
 pub enum Question {
     /// Nothing but what it holds.
     Town,
+    /// Its network, moved to an edition.
+    Move(Edition),
     Way(Way),
     Reach(Reach),
     Nearest(Nearest),
@@ -133,6 +136,7 @@ fn question(
 ) -> Result<Option<Question>, Fault> {
     Ok(Some(match (command, words) {
         (Command::Check | Command::Levels | Command::Draw | Command::Text, []) => Question::Town,
+        (Command::Convert, [word]) => Question::Move(edition(command, word)?),
         (Command::Route | Command::Draw, [from, to, word]) => Question::Way(Way {
             from: from.clone(),
             to: to.clone(),
@@ -153,6 +157,17 @@ fn question(
         }
         _ => return Ok(None),
     }))
+}
+
+/// The edition to move to that a word names.
+fn edition(command: Command, word: &str) -> Result<Edition, Fault> {
+    let named = Edition::named(word);
+    let moved = named.filter(|edition| MOVED.contains(edition));
+    moved.ok_or_else(|| {
+        let why = named.map_or_else(String::new, |_| format!(": {NO_MOVE}"));
+        let due = format!("must be {}{why}", listed(&MOVED, "or"));
+        wrong(command, "the edition", word, &due)
+    })
 }
 
 /// The tolerance that a word names, or `least`.

@@ -11,6 +11,7 @@ pub enum Command {
     Draw,
     DrawReach,
     Text,
+    Convert,
 }
 
 /// The answer for scripts.
@@ -21,7 +22,7 @@ pub const NEAREST_FIRST: &str = "--nearest-first";
 pub const REACH: &str = "--reach";
 
 impl Command {
-    pub const ALL: [Command; 8] = [
+    pub const ALL: [Command; 9] = [
         Command::Check,
         Command::Levels,
         Command::Route,
@@ -30,6 +31,7 @@ impl Command {
         Command::Draw,
         Command::DrawReach,
         Command::Text,
+        Command::Convert,
     ];
 
     /// The command that a word names; with or without a reach map, where there
@@ -52,6 +54,7 @@ impl Command {
             Command::Nearest => "nearest",
             Command::Draw | Command::DrawReach => "draw",
             Command::Text => "text",
+            Command::Convert => "convert",
         }
     }
 
@@ -72,6 +75,7 @@ impl Command {
             Command::Draw => "FILE [FROM TO TOLERANCE|least]",
             Command::DrawReach => "--reach FILE FROM TOLERANCE FEET",
             Command::Text => "TABLE",
+            Command::Convert => "FILE 02|03",
         }
     }
 
@@ -85,6 +89,7 @@ impl Command {
             Command::Draw => "a picture of the town, and of a route",
             Command::DrawReach => "a picture of the town, shaded by length from a node",
             Command::Text => "a town's table as network text",
+            Command::Convert => "a network of edition 02 as network text of edition 03, or back",
         }
     }
 
@@ -114,6 +119,9 @@ impl Command {
             Command::Text => {
                 "The table is checked on the way: what comes out is a text that Read accepts.\n"
             }
+            Command::Convert => {
+                "02 or 03 is the edition to move to, from the other.\nThe edition, the lengths' width and the head's check change, and nothing else: every level is the same, and every route of the one network is a route of the other. There and back gives the first text.\nEdition 01 has no move, since its levels would change. A network with more nodes or segments than edition 02 has, or with a longer segment, does not move back; what is above the limits is said.\n"
+            }
         }
     }
 
@@ -123,7 +131,7 @@ impl Command {
             Command::Check | Command::Levels | Command::Route | Command::Nearest => option == JSON,
             Command::Reach => [JSON, NEAREST_FIRST].contains(&option),
             Command::DrawReach => option == REACH,
-            Command::Draw | Command::Text => false,
+            Command::Draw | Command::Text | Command::Convert => false,
         }
     }
 

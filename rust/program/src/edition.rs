@@ -36,7 +36,7 @@ const NEWER: Edition = Edition {
     ..OLDER
 };
 
-const COUNTIES: Edition = Edition {
+pub const COUNTIES: Edition = Edition {
     number: 3,
     nodes: 8_000,
     segments: 8_000,
@@ -49,12 +49,24 @@ const COUNTIES: Edition = Edition {
 /// the first.
 pub const EDITIONS: [Edition; 3] = [OLDER, NEWER, COUNTIES];
 
+/// The editions that a network can be moved to, each from the other.
+pub const MOVED: [Edition; 2] = [NEWER, COUNTIES];
+
+/// Why there is no third.
+pub const NO_MOVE: &str = "edition 01 has no move, since its levels would change";
+
 impl Edition {
     /// The edition that a number names.
     pub fn numbered(number: u32) -> Option<Edition> {
         EDITIONS
             .into_iter()
             .find(|edition| edition.number == number)
+    }
+
+    /// The edition that a word names: `2` or `02`.
+    pub fn named(word: &str) -> Option<Edition> {
+        let digits = word.bytes().all(|byte| byte.is_ascii_digit());
+        Edition::numbered(word.parse().ok().filter(|_| digits)?)
     }
 
     /// The editions after it.

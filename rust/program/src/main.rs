@@ -8,6 +8,7 @@
 
 mod call;
 mod command;
+mod convert;
 mod corner;
 mod cursor;
 mod draw;
@@ -154,6 +155,8 @@ fn refusal(file: &str, fault: &Fault) -> Json {
 /// What a call asked about a town, and what the archive answered.
 enum Answer<'t> {
     Town,
+    /// The text of the moved network.
+    Moved(String),
     Way(Asked<'t>),
     Reach(Reached<'t>),
     Nearest(Nearby<'t>),
@@ -163,6 +166,7 @@ impl<'t> Answer<'t> {
     fn to(question: &Question, town: &'t Town) -> Result<Answer<'t>, Fault> {
         Ok(match question {
             Question::Town => Answer::Town,
+            Question::Move(edition) => Answer::Moved(convert::text(town, *edition)?),
             Question::Way(way) => Answer::Way(Asked::new(town, way)?),
             Question::Reach(reach) => Answer::Reach(Reached::new(town, reach)?),
             Question::Nearest(nearest) => Answer::Nearest(Nearby::new(town, nearest)?),
@@ -182,7 +186,7 @@ impl<'t> Answer<'t> {
 fn answer(call: &Call) -> Result<(String, u8), Fault> {
     if call.command == Command::Text {
         let text = table::read(&file::read(&call.file)?)?.text;
-        return Ok((String::from_utf8_lossy(&text).into_owned(), ANSWERED));
+        return Ok((text, ANSWERED));
     }
     let town = Town::read(&call.file)?;
     let answer = Answer::to(&call.question, &town)?;
@@ -199,6 +203,7 @@ fn shown(call: &Call, town: &Town, answer: &Answer<'_>) -> Result<String, Fault>
         (Command::Draw, Answer::Way(asked)) => draw::route(town, asked),
         (Command::Draw, _) => draw::town(town),
         (Command::DrawReach, Answer::Reach(reached)) => draw::reach(town, reached),
+        (_, Answer::Moved(text)) => Ok(text.clone()),
         (_, Answer::Way(asked)) => asked.page(),
         (_, Answer::Reach(reached)) => reached.page(),
         (_, Answer::Nearest(nearest)) => nearest.page(),
@@ -232,7 +237,8 @@ fn for_scripts(call: &Call, town: &Town, answer: &Answer<'_>) -> Result<Json, Fa
         Answer::Reach(reached) => reached.json()?,
         Answer::Nearest(nearest) => nearest.json()?,
         Answer::Town if call.command == Command::Levels => levels::json(town)?,
-        Answer::Town => vec![
+        // convert takes no --json.
+        Answer::Town | Answer::Moved(_) => vec![
             ("answer", Json::text("in order")),
             ("segments", Json::number(town.network.segments())),
         ],

@@ -203,6 +203,14 @@ fn frame(kind: u8, layout: &[(&str, usize)], numbers: &[u32]) -> Vec<u8> {
     frame
 }
 
+/// A frame's line: uppercase digits and a line feed.
+pub fn line(frame: &[u8]) -> String {
+    const DIGITS: &[u8; 16] = b"0123456789ABCDEF";
+    let pair = |byte: &u8| [byte >> 4, byte & 15].map(|digit| DIGITS[usize::from(digit)]);
+    let digits = frame.iter().flat_map(pair);
+    digits.chain(*b"\n").map(char::from).collect()
+}
+
 /// The byte that makes a frame's bytes sum to 0 modulo 256.
 pub fn check(body: &[u8]) -> u8 {
     body.iter().fold(0u8, |sum, byte| sum.wrapping_sub(*byte))
@@ -237,6 +245,13 @@ pub fn later(segment: &Segment, head: Head, field: usize) -> String {
         rule.is_kept(segment).then_some(words)
     });
     kept.next().unwrap_or_default()
+}
+
+/// The first rule that is broken, in words, and which later edition has that
+/// number.
+pub fn wrong(segment: &Segment, head: Head) -> Option<String> {
+    let rule = broken(segment, head)?;
+    Some(rule.words(segment.get(rule.field)) + &later(segment, head, rule.field))
 }
 
 /// The rules of every field, in their order.

@@ -52,7 +52,7 @@ pub struct Described {
     /// Feet to the east and to the north, where the table gives them.
     pub map: Option<Vec<(i32, i32)>>,
     pub streets: Vec<String>,
-    pub text: Vec<u8>,
+    pub text: String,
     pub network: Network,
 }
 
@@ -80,7 +80,7 @@ pub fn read(file: &[u8]) -> Result<Described, Fault> {
         streets: &streets,
     };
     let text = made.text();
-    let network = Network::read(&text).map_err(|refused| made.fault(refused))?;
+    let network = Network::read(text.as_bytes()).map_err(|refused| made.fault(refused))?;
     let second = |rows: &[Row<'_>]| rows.iter().map(|row| row.cells[1].to_string()).collect();
     Ok(Described {
         name: markdown::title(file).map(str::to_string),
@@ -160,16 +160,13 @@ fn edition(tables: &[Table<'_>]) -> Result<Edition, Fault> {
             let words = format!("a row is due in this table: {known}");
             Err(Fault::at(table.heading.line, words))
         }
-        [row] => {
-            let edition = whole(&row.cells[0]).and_then(Edition::numbered);
-            edition.ok_or_else(|| {
-                let cell = quoted(&row.cells[0]);
-                Fault::at(
-                    row.line,
-                    format!("{EDITION} is {cell}, and must be {known}"),
-                )
-            })
-        }
+        [row] => Edition::named(&row.cells[0]).ok_or_else(|| {
+            let cell = quoted(&row.cells[0]);
+            Fault::at(
+                row.line,
+                format!("{EDITION} is {cell}, and must be {known}"),
+            )
+        }),
         [_, second, ..] => Err(Fault::at(second.line, "a second edition: a town has one")),
     }
 }
@@ -370,15 +367,6 @@ fn measured<'c>(
     }
 }
 
-/// A frame's line: uppercase digits and a line feed.
-fn line(frame: &[u8]) -> Vec<u8> {
-    const DIGITS: &[u8; 16] = b"0123456789ABCDEF";
-    let pair = |byte: &u8| [byte >> 4, byte & 15].map(|digit| DIGITS[usize::from(digit)]);
-    let mut line: Vec<u8> = frame.iter().flat_map(pair).collect();
-    line.push(b'\n');
-    line
-}
-
 /// What a text is made of.
 struct Made<'t> {
     edition: Edition,
@@ -402,10 +390,10 @@ impl Made<'_> {
     }
 
     /// The network text.
-    fn text(&self) -> Vec<u8> {
-        let mut text = line(&self.head().frame());
+    fn text(&self) -> String {
+        let mut text = segment::line(&self.head().frame());
         for street in self.streets {
-            text.extend(line(&street.frame(self.edition)));
+            text += &segment::line(&street.frame(self.edition));
         }
         text
     }
@@ -444,8 +432,6 @@ impl Made<'_> {
             let node = format!("node {}, {place}", taken.node);
             return Some(taken.words(taken.by == number, &by, &node));
         }
-        let rule = segment::broken(segment, self.head())?;
-        let later = segment::later(segment, self.head(), rule.field);
-        Some(rule.words(segment.get(rule.field)) + &later)
+        segment::wrong(segment, self.head())
     }
 }

@@ -97,6 +97,14 @@ impl Town {
             .filter(|name| !name.is_empty())
     }
 
+    /// A segment's street with its number.
+    pub fn numbered_street(&self, segment: usize) -> String {
+        match self.street(segment) {
+            Some(street) => format!("{street} (segment {segment})"),
+            None => format!("segment {segment}"),
+        }
+    }
+
     /// Where a node lies on the map.
     pub fn map_place(&self, node: usize) -> Option<(i32, i32)> {
         self.map.as_ref()?.get(node).copied()

@@ -8,7 +8,7 @@ use common::{GRID, Json, MEASURES, run, some_towns, table};
 use oracle::Net;
 use towns::Town;
 use towns::draw::{Rng, Shape, Spot, damage, town_of};
-use towns::town::{Approach, Segment};
+use towns::town::{Approach, COUNTY, NEWER, OLDER, Segment};
 
 #[test]
 fn levels_are_the_oracles() {
@@ -216,6 +216,58 @@ fn tables_and_texts_say_the_same() {
         }
         assert_eq!(named_answer.get("from").get("place").text(), place);
     }
+}
+
+/// What of a town is above the limits of edition 02, as it is named: a count, or
+/// else the first segment that is too long.
+fn above(town: &Town) -> Option<String> {
+    let counts = [usize::from(town.nodes), town.segments.len()].into_iter();
+    let mut counts = counts.zip(["nodes", "segments"]);
+    let count = counts.find(|(count, _)| *count > 1_000);
+    let lengths = (0..).zip(town.segments.iter().map(|segment| segment.length));
+    let mut long = lengths.filter(|(_, feet)| *feet > 52_800);
+    match count {
+        Some((count, name)) => Some(format!("{count} {name}: edition 02 has ")),
+        None => long
+            .next()
+            .map(|(number, feet)| format!("segment {number}: length is {feet} and must be ")),
+    }
+}
+
+/// A town's text of the other edition is the same town's, whether it is given as
+/// a text or as a table; what has none is told.
+#[test]
+fn moved_towns_are_the_same_towns() {
+    let mut moved = [0; 2];
+    for (mut rng, town) in some_towns(4) {
+        let file = match rng.chance(50) {
+            true => town.text(),
+            false => table(&town, rng.chance(50).then_some(GRID)).into_bytes(),
+        };
+        let (to, edition, refused) = match town.edition {
+            NEWER => ("03", COUNTY, None),
+            COUNTY => ("02", NEWER, above(&town).map(|words| (17, words))),
+            _ => (
+                rng.pick(&["02", "03"]),
+                OLDER,
+                Some((16, "edition 01".into())),
+            ),
+        };
+        moved[usize::from(refused.is_some())] += 1;
+        let said = run(&["convert", "-", to], &file);
+        if let Some((number, words)) = refused {
+            // A table's streets have names.
+            let err = said.err.replace("): length", ": length");
+            let number = format!("splicereel: standard input: refused, number {number}: ");
+            assert!(err.starts_with(&number) && err.contains(&words), "{err}");
+            assert_eq!((said.status, said.out.as_str()), (Some(2), ""));
+        } else {
+            let due = town.edition(edition).text();
+            assert_eq!((said.status, said.err.as_str()), (Some(0), ""));
+            assert_eq!(said.out.as_bytes(), due);
+        }
+    }
+    assert!(moved.into_iter().all(|count| count > 60), "{moved:?}");
 }
 
 /// Refusal and line of damaged texts are the oracle's, and the words say more

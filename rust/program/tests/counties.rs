@@ -163,6 +163,23 @@ fn the_table_is_the_text() {
     assert_eq!(answer.get("feet").number(), 4_223_208_000);
 }
 
+#[test]
+fn a_county_has_no_move() {
+    for file in [&COUNTY.text()[..], table().as_bytes()] {
+        for (edition, due) in [
+            (
+                "02",
+                "17: 8000 nodes: edition 02 has 1 to 1000; edition 03 has 1 to 8000",
+            ),
+            ("03", "16: the network is of edition 03 already"),
+        ] {
+            let moved = run(&["convert", "-", edition], file);
+            let due = format!("splicereel: standard input: refused, number {due}\n");
+            assert_eq!((moved.status, moved.err), (Some(2), due));
+        }
+    }
+}
+
 /// The last line of the largest text, line 8,001, and a line too many.
 #[test]
 fn the_last_line_is_shown() {

@@ -177,7 +177,7 @@ fn large(rng: &mut Rng) -> Vec<u8> {
 }
 
 /// The commands, those that search more often.
-const COMMANDS: [&str; 12] = [
+const COMMANDS: [&str; 13] = [
     "check",
     "levels",
     "route",
@@ -190,6 +190,7 @@ const COMMANDS: [&str; 12] = [
     "draw --reach",
     "draw --reach",
     "text",
+    "convert",
 ];
 
 /// Greatest lengths, and words that are none.
@@ -251,7 +252,13 @@ fn words(rng: &mut Rng, file: &str) -> Vec<String> {
             _ => words.push(rng.pick(&FEET).into()),
         }
     }
-    if !["draw", "draw --reach", "text"].contains(&command) && rng.chance(30) {
+    if command == "convert" {
+        words.push(
+            rng.pick(&["01", "02", "03", "02", "03", "2", "3", "4"])
+                .into(),
+        );
+    }
+    if !["draw", "draw --reach", "text", "convert"].contains(&command) && rng.chance(30) {
         words.push("--json".into());
     }
     if rng.chance(3) {

@@ -412,6 +412,67 @@ fn fields_against_the_rules_of_edition_03() {
     );
 }
 
+/// A table of edition 03 with so many places and paths in a row; at each place
+/// two paths begin, and at the next they end.
+fn county(places: usize, paths: usize, feet: &str) -> String {
+    let nodes: String = (0..places)
+        .map(|node| format!("| {node} | a |\n"))
+        .collect();
+    let path = |number: usize| {
+        let (node, leg) = (number / 2, number % 2);
+        ROW.replacen("| 0 |", &format!("| {number} |"), 1).replace(
+            "| 0 | 2 | 1 | 6 | 500 |",
+            &format!("| {node} | {leg} | {} | {} | {feet} |", node + 1, leg + 4),
+        )
+    };
+    let paths: String = (0..paths).map(path).collect();
+    let county = with(&paths).replace("| 0 | here |\n| 1 | there |\n", &nodes);
+    of_edition("| 03 |\n", &county)
+}
+
+/// What does not move to edition 02: nodes are told before segments, and those
+/// before lengths.
+#[test]
+fn counties_above_the_limits() {
+    let back = |county: &str, due: &str| {
+        let due = format!("standard input: refused, number 17: {due}");
+        says(&["convert", "-", "02"], county.as_bytes(), &due);
+        let text = run(&["text", "-"], county.as_bytes()).out;
+        let due = due.replace("Elm Street (segment 2)", "segment 2");
+        says(&["convert", "-", "2"], text.as_bytes(), &due);
+    };
+    let has = "edition 02 has 1 to 1000; edition 03 has 1 to 8000";
+    back(&county(1_001, 0, ""), &format!("1001 nodes: {has}"));
+    let both = county(2_000, 1_001, "52,801");
+    back(&both, &format!("2000 nodes: {has}"));
+    let has = "edition 02 has 0 to 1000; edition 03 has 0 to 8000";
+    let segments = county(600, 1_001, "52,801");
+    back(&segments, &format!("1001 segments: {has}"));
+
+    let short = county(9, 5, "52,800");
+    let third = short.match_indices("52,800").nth(2).expect("a third").0;
+    let (start, end) = (&short[..third], &short[third + "52,800".len()..]);
+    let long = format!("{start}52,801{}", end.replace("52,800", "264,000"));
+    let due = "Elm Street (segment 2): length is 52801 and must be 1 to 52800; edition 03 has 1 to 264000";
+    back(&long, due);
+}
+
+/// As large as edition 02 allows, a county moves; and no network moves to the edition
+/// that it has.
+#[test]
+fn counties_within_the_limits() {
+    let county = county(1_000, 1_000, "52,800");
+    let moved = run(&["convert", "-", "02"], county.as_bytes());
+    assert_eq!((moved.status, moved.err.as_str()), (Some(0), ""));
+    assert!(moved.out.starts_with("010203E803E8"));
+    for (file, edition) in [(&moved.out, "02"), (&county, "03")] {
+        let due = format!(
+            "standard input: refused, number 16: the network is of edition {edition} already"
+        );
+        says(&["convert", "-", edition], file.as_bytes(), &due);
+    }
+}
+
 #[test]
 fn legs_that_are_taken() {
     table_says(
@@ -595,6 +656,7 @@ fn texts_that_are_refused() {
             &["nearest", "-", "0", "1", "0"],
             &["draw", "-"],
             &["draw", "--reach", "-", "0", "1", "9"],
+            &["convert", "-", "03"],
         ] {
             shows(words, text, &due, below);
         }
@@ -605,23 +667,23 @@ fn texts_that_are_refused() {
 const CALLS: [(&[&str], &str); 16] = [
     (
         &[],
-        "a command is missing: check, levels, route, reach, nearest, draw, text; see splicereel --help",
+        "a command is missing: check, levels, route, reach, nearest, draw, text, convert; see splicereel --help",
     ),
     (
         &["rout"],
-        "'rout' is no command; expected one of check, levels, route, reach, nearest, draw, text; did you mean route?",
+        "'rout' is no command; expected one of check, levels, route, reach, nearest, draw, text, convert; did you mean route?",
     ),
     (
         &["--json"],
-        "a command is missing: check, levels, route, reach, nearest, draw, text; see splicereel --help",
+        "a command is missing: check, levels, route, reach, nearest, draw, text, convert; see splicereel --help",
     ),
     (
         &["\u{E9}"],
-        "'\u{E9}' is no command; expected one of check, levels, route, reach, nearest, draw, text",
+        "'\u{E9}' is no command; expected one of check, levels, route, reach, nearest, draw, text, convert",
     ),
     (
         &["x\u{1b}[31m"],
-        "'x\u{FFFD}[31m' is no command; expected one of check, levels, route, reach, nearest, draw, text",
+        "'x\u{FFFD}[31m' is no command; expected one of check, levels, route, reach, nearest, draw, text, convert",
     ),
     (
         &["check"],
@@ -769,11 +831,55 @@ const REACHES: [(&[&str], &str); 24] = [
     ),
 ];
 
+/// Calls about a move to another edition. The table is of edition 01.
+const MOVES: [(&[&str], &str); 10] = [
+    (
+        &["convert"],
+        "convert: its words are missing; expected: splicereel convert FILE 02|03",
+    ),
+    (
+        &["convert", "-"],
+        "convert: only a file is given; expected: splicereel convert FILE 02|03",
+    ),
+    (
+        &["convert", "-", "03", "02"],
+        "convert: 3 words are given; expected: splicereel convert FILE 02|03",
+    ),
+    (
+        &["convert", "-", "01"],
+        "convert: the edition is '01', and must be 02 or 03: edition 01 has no move, since its levels would change",
+    ),
+    (
+        &["convert", "-", "04"],
+        "convert: the edition is '04', and must be 02 or 03",
+    ),
+    (
+        &["convert", "-", ""],
+        "convert: the edition is '', and must be 02 or 03",
+    ),
+    (
+        &["convert", "-", "+3"],
+        "convert: the edition is '+3', and must be 02 or 03",
+    ),
+    (
+        &["convert", "-", "03", "--json"],
+        "convert has no --json; expected: splicereel convert FILE 02|03",
+    ),
+    (
+        &["convert", "-", "03"],
+        "standard input: refused, number 16: edition 01 has no move, since its levels would change",
+    ),
+    (
+        &["convert", "-", "2"],
+        "standard input: refused, number 16: edition 01 has no move, since its levels would change",
+    ),
+];
+
 #[test]
 fn wrong_calls() {
     let table = with(ROW);
     let input = table.as_bytes();
-    for (words, due) in CALLS.into_iter().chain(REACHES) {
+    for (words, due) in CALLS.into_iter().chain(REACHES).chain(MOVES) {
         says(words, input, due);
     }
     says(
@@ -819,6 +925,7 @@ fn help_on_each_command() {
         &["nearest"],
         &["draw"],
         &["draw", "--reach"],
+        &["convert"],
     ] {
         let help = run(&[&["help"], words].concat(), b"");
         let due = format!("splicereel {} FILE", words.join(" "));

@@ -1,6 +1,7 @@
 //! The pages that tests/splicereel stores say what the slow oracle says: which
 //! answer, its length and levels, each run, each corner and each segment; each
 //! node that is reached, and the nearest; and which line of a text is refused.
+//! What is moved to another edition is the file's network.
 
 mod common;
 
@@ -338,6 +339,74 @@ fn levels_are_the_oracles() {
             assert_eq!((number(row) as usize, level(row, heading)), (s, judged));
             assert!(row.ends_with(MEASURES[usize::from(measure) - 1]), "{row}");
         }
+    }
+}
+
+/// The kept bytes of a network moved to edition 2 or 3, frame by frame, or the
+/// number of the refusal.
+fn moved(net: &[u8], edition: u8) -> Result<Vec<u8>, u8> {
+    if net[1] == 1 || net[1] == edition {
+        return Err(16);
+    }
+    let count = |at: usize| usize::from(net[at]) * 256 + usize::from(net[at + 1]);
+    let mut above = edition == 2 && (count(2) > 1_000 || count(4) > 1_000);
+    let mut moved = [&[1, edition], &net[2..6], &[0]].concat();
+    let sum = moved.iter().fold(0u8, |sum, byte| sum.wrapping_add(*byte));
+    moved[6] = sum.wrapping_neg();
+    let (width, frame) = if edition == 2 { (4, 32) } else { (2, 30) };
+    for frame in net[7..].chunks(frame) {
+        let (length, rest) = frame[7..].split_at(width);
+        let feet = length
+            .iter()
+            .fold(0, |feet, byte| feet * 256 + u32::from(*byte));
+        above |= edition == 2 && feet > 52_800;
+        let length = &feet.to_be_bytes()[width - 2..];
+        moved = [&moved, &frame[..7], length, rest].concat();
+    }
+    if above { Err(17) } else { Ok(moved) }
+}
+
+/// What convert prints is the network of the file, moved, or it is refused.
+#[test]
+fn moves_are_the_files() {
+    let mut met = [0; 2];
+    let called = |words: &[String]| words.first().is_some_and(|word| word == "convert");
+    for (words, path) in calls().filter(|(words, _)| called(words)) {
+        let edition = words.iter().find_map(|word| word.parse::<u8>().ok());
+        let named = words.iter().find(|word| file(word).is_file());
+        let option = words.iter().any(|word| word.starts_with("--"));
+        let (Some(edition @ 2..=3), Some(named), false) = (edition, named, option) else {
+            continue;
+        };
+        let [page, fault] = ["out", "err"]
+            .map(|kind| fs::read_to_string(path.with_extension(kind)).unwrap_or_default());
+        let due = moved(&kept(named), edition);
+        met[usize::from(due.is_err())] += 1;
+        match due {
+            Ok(net) => assert_eq!(oracle::read(page.as_bytes(), usize::MAX), Ok(net)),
+            Err(number) => {
+                assert_eq!(page, "");
+                let due = format!("splicereel: {named}: refused, number {number}: ");
+                assert!(fault.starts_with(&due), "{fault}");
+            }
+        }
+    }
+    assert!(met[0] >= 6 && met[1] >= 8, "{met:?}");
+}
+
+/// Westerby as text of edition 02, and moved to 03: the pages differ in the line
+/// that names the edition.
+#[test]
+fn pages_of_a_moved_town_are_the_same() {
+    let page = |name: &str| {
+        let out = file(&format!("tests/splicereel/{name}.out"));
+        fs::read_to_string(out).expect(name)
+    };
+    let levels = ["text", "03"].map(|of| page(&format!("levels-westerby-{of}")));
+    assert_eq!(levels[0].replace("Edition  02", "Edition  03"), levels[1]);
+    for question in ["to-library-2", "to-station-2"] {
+        let [text, moved] = ["text", "03"].map(|of| page(&format!("westerby-{of}-{question}")));
+        assert_eq!(text, moved);
     }
 }
 

@@ -130,4 +130,22 @@ unsafe extern "C" {
         previous_length: usize,
         told: *mut u32,
     ) -> u32;
+
+    /// Move up: a network of edition 02 as one of edition 03.
+    pub fn splicereel_move_up(
+        net: *const u8,
+        net_length: usize,
+        output: *mut u8,
+        output_length: usize,
+        told: *mut u32,
+    ) -> u32;
+
+    /// Move back: a network of edition 03 as one of edition 02.
+    pub fn splicereel_move_back(
+        net: *const u8,
+        net_length: usize,
+        output: *mut u8,
+        output_length: usize,
+        told: *mut u32,
+    ) -> u32;
 }

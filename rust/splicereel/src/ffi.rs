@@ -220,3 +220,33 @@ pub fn nearest(
         )
     }
 }
+
+/// Move up. 0: `told[0]` bytes are written.
+#[inline]
+pub fn move_up(net: &[u8], output: &mut [u8], told: &mut Told) -> u32 {
+    // SAFETY: pointers and lengths of live slices; see above.
+    unsafe {
+        splicereel_sys::splicereel_move_up(
+            net.as_ptr(),
+            net.len(),
+            output.as_mut_ptr(),
+            output.len(),
+            told.as_mut_ptr(),
+        )
+    }
+}
+
+/// Move back. 0: `told[0]` bytes are written.
+#[inline]
+pub fn move_back(net: &[u8], output: &mut [u8], told: &mut Told) -> u32 {
+    // SAFETY: pointers and lengths of live slices; see above.
+    unsafe {
+        splicereel_sys::splicereel_move_back(
+            net.as_ptr(),
+            net.len(),
+            output.as_mut_ptr(),
+            output.len(),
+            told.as_mut_ptr(),
+        )
+    }
+}

@@ -285,6 +285,83 @@ pub fn nearest(
     }))
 }
 
+/// Writes a network of edition 02 into `output` as one of edition 03, and gives
+/// the number of bytes written; later bytes stay. A refusal leaves `output` as
+/// it was.
+///
+/// The edition, the lengths' width and the head's check change, and nothing
+/// else: every level is the same, and every route of the one network is a route
+/// of the other, as long. Edition 01 has no move, since its levels would change.
+///
+/// Refusals: [`Refusal::NotANetwork`], [`Refusal::NoSuchMove`] for another
+/// edition, [`Refusal::TooShortForMove`].
+///
+/// ```
+/// use splicereel::{move_up, read, Refusal};
+///
+/// // One street of 500 feet.
+/// let text = b"\
+/// 010200020001FA
+/// 0200000200010601F4010301191A020000000000000000000000000000C6
+/// ";
+/// let mut net = [0; 7 + 30];
+/// assert_eq!(read(text, &mut net), Ok(37));
+/// let mut output = [9; 7 + 32 + 1];
+/// assert_eq!(move_up(&net, &mut output[..38]), Err(Refusal::TooShortForMove));
+/// assert_eq!(output, [9; 40]);
+/// assert_eq!(move_up(&net, &mut output), Ok(39));
+///
+/// // The head, with another edition and check; and the length, where two bytes
+/// // 0 come before the two that it had.
+/// assert_eq!(output[..7], [1, 3, 0, 2, 0, 1, 0xF9]);
+/// assert_eq!(output[7..14], net[7..14]);
+/// assert_eq!(output[14..18], 500_u32.to_be_bytes());
+/// assert_eq!(output[18..39], net[16..]);
+/// assert_eq!(output[39], 9);
+///
+/// // It is of edition 03 now, which is the last.
+/// let refused = move_up(&output[..39], &mut []);
+/// assert_eq!(refused, Err(Refusal::NoSuchMove));
+/// ```
+pub fn move_up(net: &[u8], output: &mut [u8]) -> Result<usize, Refusal> {
+    let mut told = Told::default();
+    answered(ffi::move_up(net, output, &mut told))?;
+    Ok(output.len().min(told[0] as usize))
+}
+
+/// Writes a network of edition 03 into `output` as one of edition 02, and gives
+/// the number of bytes written; later bytes stay. A refusal leaves `output` as
+/// it was.
+///
+/// It changes what [`move_up`] changes: of a network that was moved up it gives
+/// the first bytes again.
+///
+/// Refusals: [`Refusal::NotANetwork`], [`Refusal::NoSuchMove`] for another
+/// edition, [`Refusal::AboveLimits`] for more than 1,000 nodes or segments or a
+/// length above 52,800 feet, [`Refusal::TooShortForMove`].
+///
+/// ```
+/// use splicereel::{move_back, move_up, Network, Refusal};
+/// # let text = include_bytes!(concat!(env!("CARGO_MANIFEST_DIR"), "/../../towns/westerby.txt"));
+/// let westerby = Network::read(text)?;
+/// let (mut up, mut back) = ([0; 7 + 32 * 10], [0; 7 + 30 * 10]);
+/// assert_eq!(move_up(westerby.as_bytes(), &mut up), Ok(327));
+/// assert_eq!(move_back(&up, &mut back), Ok(307));
+/// assert_eq!(back, westerby.as_bytes());
+/// assert_eq!(move_back(&back, &mut up), Err(Refusal::NoSuchMove));
+///
+/// // Tarnmoor has roads of up to 264,000 feet.
+/// # let text = include_bytes!(concat!(env!("CARGO_MANIFEST_DIR"), "/../../towns/tarnmoor.txt"));
+/// let tarnmoor = Network::read(text)?;
+/// assert_eq!(move_back(tarnmoor.as_bytes(), &mut []), Err(Refusal::AboveLimits));
+/// # Ok::<(), Box<dyn std::error::Error>>(())
+/// ```
+pub fn move_back(net: &[u8], output: &mut [u8]) -> Result<usize, Refusal> {
+    let mut told = Told::default();
+    answered(ffi::move_back(net, output, &mut told))?;
+    Ok(output.len().min(told[0] as usize))
+}
+
 #[cfg(test)]
 mod tests {
     use super::part_of;

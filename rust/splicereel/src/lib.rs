@@ -8,12 +8,15 @@
 //! - The lending one takes the caller's slices and allocates nothing:
 //!   [`read`], [`refused_line`], [`judge_segment`], [`judge_movement`],
 //!   [`route`] and [`least_stress`], with [`Lent`] for what a search borrows,
-//!   [`reach_map`] and [`nearest`], with [`Scratch`].
+//!   [`reach_map`] and [`nearest`], with [`Scratch`], [`move_up`] and
+//!   [`move_back`].
 //!
 //! Networks of editions 01, 02 and 03 are read, and judged by the rules of the
 //! edition that their head names ([`Network::edition`]). Edition 03 has the
 //! rules of 02, and is for counties: up to [`MAX_NODES`] nodes and
-//! [`MAX_SEGMENTS`] segments, each of up to 264,000 feet.
+//! [`MAX_SEGMENTS`] segments, each of up to 264,000 feet. A network of edition
+//! 02 is moved up to 03 by [`Network::to_county`], and back by
+//! [`Network::to_town`].
 //!
 //! Every call ends with an answer or a [`Refusal`] on every input; none
 //! panics, and a refusal leaves every lent slice as it was. The crate needs
@@ -57,8 +60,8 @@ mod refusal;
 
 pub use answer::{Direction, Entry, Found, Judged, Level, Measure, Run};
 pub use ffi::{Lent, Scratch};
-pub use lending::{judge_movement, judge_segment, least_stress, nearest, reach_map};
-pub use lending::{read, refused_line, route};
+pub use lending::{judge_movement, judge_segment, least_stress, move_back, move_up};
+pub use lending::{nearest, reach_map, read, refused_line, route};
 pub use network::{Network, Route};
 pub use reach::{Entries, ReachMap};
 pub use refusal::{ReadRefusal, Refusal, RefusedLine};

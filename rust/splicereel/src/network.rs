@@ -9,6 +9,12 @@ use crate::{MAX_NETWORK, MAX_SEGMENTS};
 use alloc::vec;
 use alloc::vec::Vec;
 
+/// The bytes of a head, and those of a segment's frame: of editions 01 and 02,
+/// and of 03.
+const HEAD: usize = 7;
+const TOWN_FRAME: usize = 30;
+const COUNTY_FRAME: usize = 32;
+
 /// A network that Read accepted.
 ///
 /// ```
@@ -337,6 +343,92 @@ impl Network {
         lending::nearest(&self.bytes, from, tolerance.number(), &marks, room.lend())
     }
 
+    /// The network, one of edition 02, as one of edition 03.
+    ///
+    /// The edition, the lengths' width and the head's check change, and nothing
+    /// else: every level is the same, and every route of the one network is a
+    /// route of the other, as long. [`Network::to_town`] gives the first bytes
+    /// again.
+    ///
+    /// Edition 01 has no move, since its levels would change: it is judged by
+    /// the older rules, and edition 03 by the newer.
+    ///
+    /// Refusal: [`Refusal::NoSuchMove`] for a network of another edition.
+    ///
+    /// ```
+    /// use splicereel::{Level, Network, Refusal};
+    /// # let text = include_bytes!(concat!(env!("CARGO_MANIFEST_DIR"), "/../../towns/westerby.txt"));
+    /// let westerby = Network::read(text)?;
+    /// let moved = westerby.to_county()?;
+    /// assert_eq!((westerby.edition(), moved.edition()), (2, 3));
+    /// assert_eq!(moved.as_bytes().len(), 7 + 32 * moved.segments());
+    /// for tolerance in Level::ALL {
+    ///     let feet = |network: &Network| {
+    ///         let route = network.route(0, 4, tolerance)?;
+    ///         Ok::<_, Refusal>(route.map(|route| route.feet()))
+    ///     };
+    ///     assert_eq!(feet(&westerby), feet(&moved));
+    /// }
+    /// assert_eq!(moved.to_town(), Ok(westerby));
+    ///
+    /// // Block town is of edition 01.
+    /// # let text = include_bytes!(concat!(env!("CARGO_MANIFEST_DIR"), "/../../towns/block-town.txt"));
+    /// let block_town = Network::read(text)?;
+    /// assert_eq!(block_town.to_county(), Err(Refusal::NoSuchMove));
+    /// # Ok::<(), Box<dyn std::error::Error>>(())
+    /// ```
+    pub fn to_county(&self) -> Result<Network, Refusal> {
+        self.moved(lending::move_up, COUNTY_FRAME)
+    }
+
+    /// The network, one of edition 03, as one of edition 02, which units read
+    /// that know no later edition.
+    ///
+    /// It changes what [`Network::to_county`] changes, and keeps what that
+    /// keeps. Edition 02 has fewer nodes, fewer segments and shorter ones.
+    ///
+    /// Refusals: [`Refusal::NoSuchMove`] for a network of another edition,
+    /// [`Refusal::AboveLimits`] for one with more than 1,000 nodes or segments
+    /// or with a length above 52,800 feet.
+    ///
+    /// ```
+    /// use splicereel::{Network, Refusal};
+    ///
+    /// // A path of 52,800 feet, as long as there is one in edition 02.
+    /// let county = b"\
+    /// 010300020001F9
+    /// 020000020001060000CE400303000000000000000000000000000000000000E1
+    /// ";
+    /// let county = Network::read(county)?;
+    /// let town = county.to_town()?;
+    /// assert_eq!((town.edition(), town.as_bytes().len()), (2, 7 + 30));
+    /// assert_eq!(town.to_county(), Ok(county));
+    /// assert_eq!(town.to_town(), Err(Refusal::NoSuchMove));
+    ///
+    /// // One foot more.
+    /// let longer = b"\
+    /// 010300020001F9
+    /// 020000020001060000CE410303000000000000000000000000000000000000E0
+    /// ";
+    /// assert_eq!(Network::read(longer)?.to_town(), Err(Refusal::AboveLimits));
+    /// # Ok::<(), Box<dyn std::error::Error>>(())
+    /// ```
+    pub fn to_town(&self) -> Result<Network, Refusal> {
+        self.moved(lending::move_back, TOWN_FRAME)
+    }
+
+    /// What a move writes, whose frames have so many bytes.
+    fn moved(
+        &self,
+        write: fn(&[u8], &mut [u8]) -> Result<usize, Refusal>,
+        frame: usize,
+    ) -> Result<Network, Refusal> {
+        let mut bytes = vec![0; HEAD + frame * self.segments()];
+        let written = write(&self.bytes, &mut bytes)?;
+        bytes.truncate(written);
+        Ok(Network { bytes })
+    }
+
     /// The number of runs: two for each segment.
     fn runs(&self) -> usize {
         2 * self.segments()
@@ -350,7 +442,7 @@ fn room(text: &[u8]) -> usize {
         .get(8..12)
         .and_then(|digits| str::from_utf8(digits).ok());
     let count = digits.and_then(|digits| usize::from_str_radix(digits, 16).ok());
-    7 + 32 * count.unwrap_or(0).min(MAX_SEGMENTS)
+    HEAD + COUNTY_FRAME * count.unwrap_or(0).min(MAX_SEGMENTS)
 }
 
 /// What a search over one network borrows.

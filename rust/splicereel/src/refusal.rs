@@ -53,13 +53,19 @@ pub enum Refusal {
     /// 15: the list of a reach map is shorter than two numbers for each node,
     /// or there are fewer marks than nodes.
     TooFewEntries,
+    /// 16: a network of an edition that has no move that way.
+    NoSuchMove,
+    /// 17: a count or a length is above the limits of the edition moved to.
+    AboveLimits,
+    /// 18: the output is shorter than the moved network.
+    TooShortForMove,
     /// A number that this crate does not know, as an archive of another
     /// version could return; or an answer out of the known range.
     Unknown(u32),
 }
 
 /// Every refusal that has a number of its own, in their order.
-const KNOWN: [Refusal; 15] = [
+const KNOWN: [Refusal; 18] = [
     Refusal::NotDigits,
     Refusal::WrongCheck,
     Refusal::WrongFrame,
@@ -75,6 +81,9 @@ const KNOWN: [Refusal; 15] = [
     Refusal::NoMovement,
     Refusal::NoRefusedLine,
     Refusal::TooFewEntries,
+    Refusal::NoSuchMove,
+    Refusal::AboveLimits,
+    Refusal::TooShortForMove,
 ];
 
 impl Refusal {
@@ -124,6 +133,11 @@ impl fmt::Display for Refusal {
             Refusal::NoMovement => "no movement joins the two runs",
             Refusal::NoRefusedLine => "Read would accept the text: no line is refused",
             Refusal::TooFewEntries => "a lent list has fewer entries than there are nodes",
+            Refusal::NoSuchMove => "a network of this edition has no move that way",
+            Refusal::AboveLimits => {
+                "a count or a length is above the limits of the edition moved to"
+            }
+            Refusal::TooShortForMove => "the output is shorter than the moved network",
             Refusal::Unknown(number) => {
                 return write!(out, "number {number}, which this crate does not know");
             }

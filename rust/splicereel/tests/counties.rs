@@ -7,8 +7,8 @@ use county::{FEET, OutAndBack};
 use splicereel::{
     COUNTY_STACK, Entry, Found, Judged, Lent, Level, MAX_FEET, MAX_LIST, MAX_NETWORK, MAX_NODES,
     MAX_RUNS, MAX_SEGMENTS, MAX_TEXT, Measure, Network, ReadRefusal, Refusal, RefusedLine, Route,
-    Run, Scratch, TOWN_STACK, judge_movement, judge_segment, least_stress, nearest, reach_map,
-    read, refused_line, route,
+    Run, Scratch, TOWN_STACK, judge_movement, judge_segment, least_stress, move_back, move_up,
+    nearest, reach_map, read, refused_line, route,
 };
 
 /// Stack for what a thread itself needs, beside a call.
@@ -275,6 +275,9 @@ fn lending_refusals(kept: &Kept) {
     assert_eq!(refused, Some(Refusal::TooFewEntries));
     let refused = route(net, end + 1, 0, 4, room.lent());
     assert_eq!(refused, Err(Refusal::NoSuchNode));
+    let mut output = vec![0; MAX_NETWORK];
+    assert_eq!(move_up(net, &mut output), Err(Refusal::NoSuchMove));
+    assert_eq!(move_back(net, &mut output), Err(Refusal::AboveLimits));
     let mut wrong = kept.bytes.clone();
     *wrong.last_mut().expect("bytes") ^= 1;
     let refused = judge_segment(&wrong, 0);
@@ -337,6 +340,8 @@ fn owned(county: OutAndBack) {
     owned_judges(&network, county);
     owned_routes(&network, &kept);
     owned_reach(&network, &kept);
+    assert_eq!(network.to_county(), Err(Refusal::NoSuchMove));
+    assert_eq!(network.to_town(), Err(Refusal::AboveLimits));
 }
 
 fn owned_judges(network: &Network, county: OutAndBack) {

@@ -4,14 +4,14 @@
 use splicereel::{
     Direction, Entry, Found, Lent, Level, MAX_NETWORK, Network, ReadRefusal, Refusal, RefusedLine,
     Run, Scratch, TOWN_LIST, TOWN_NODES, TOWN_RUNS, TOWN_SEGMENTS, judge_movement, judge_segment,
-    least_stress, nearest, reach_map, read, refused_line, route,
+    least_stress, move_back, move_up, nearest, reach_map, read, refused_line, route,
 };
 use std::collections::HashSet;
 use std::error::Error;
 use towns::draw::{self, Rng, Shape, Spot, damage};
 use towns::edition::EDITIONS;
 use towns::lend::{Guarded, Lengths, Lent as Room};
-use towns::town::{Town, block_town};
+use towns::town::{NEWER, Town, block_town};
 
 /// Block town, its middle loop open one way only.
 fn one_way_loop() -> Network {
@@ -231,13 +231,13 @@ fn each_refusal_of_the_reach_has_its_name() {
 #[test]
 fn refusals_have_numbers_and_words() {
     let mut words = HashSet::new();
-    for number in 1..=15 {
+    for number in 1..=18 {
         let refusal = Refusal::from_number(number);
         assert_eq!(refusal.number(), number);
         assert_ne!(refusal, Refusal::Unknown(number));
         assert!(words.insert(refusal.to_string()), "{refusal} comes twice");
     }
-    for number in [0, 16, u32::MAX] {
+    for number in [0, 19, u32::MAX] {
         assert_eq!(Refusal::from_number(number), Refusal::Unknown(number));
         assert_eq!(Refusal::Unknown(number).number(), number);
     }
@@ -255,6 +255,7 @@ fn refusals_have_numbers_and_words() {
 fn calls_fit_a_small_stack() {
     let town = draw::town(Shape::Grid, 11, TOWN_SEGMENTS);
     let (text, net, last) = (town.text(), town.bytes(), usize::from(town.nodes) - 1);
+    let newer = town.edition(NEWER).bytes();
     let calls = move || {
         let mut output = vec![0; MAX_NETWORK];
         let mut room = Room::exact(TOWN_RUNS);
@@ -267,7 +268,10 @@ fn calls_fit_a_small_stack() {
         let (mut list, marks) = (vec![0; TOWN_LIST], vec![0; TOWN_NODES]);
         let mapped = reach_map(&net, 0, 4, usize::MAX, scratch(&mut room), &mut list).is_ok();
         let near = nearest(&net, 0, 4, &marks, scratch(&mut room)) == Ok(None);
-        read && judged && routed && least && mapped && near
+        let mut back = vec![0; newer.len()];
+        let up = move_up(&newer, &mut output).unwrap_or(0);
+        let moved = move_back(&output[..up], &mut back).is_ok() && back == newer;
+        read && judged && routed && least && mapped && near && moved
     };
     let small = std::thread::Builder::new().stack_size(80 * 1024);
     let thread = small.spawn(calls).expect("a thread");

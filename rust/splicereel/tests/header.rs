@@ -1,10 +1,12 @@
 //! The crate's sizes are those of the C header, and the twin's; a part of a
-//! text, a reach map and the nearest node are told where the header says.
+//! text, a reach map, the nearest node and the bytes of a moved network are told
+//! where the header says.
 
-use splicereel::ffi::{Part, Scratch, Told, nearest, reach_map, refused_line};
+use splicereel::ffi::{Part, Scratch, Told};
+use splicereel::ffi::{move_back, move_up, nearest, reach_map, refused_line};
 use splicereel::{COUNTY_STACK, TOWN_LIST, TOWN_NODES, TOWN_RUNS, TOWN_SEGMENTS, TOWN_STACK};
 use splicereel::{MAX_FEET, MAX_LIST, MAX_NETWORK, MAX_NODES, MAX_RUNS, MAX_SEGMENTS, MAX_TEXT};
-use towns::town::block_town;
+use towns::town::{block_town, westerby};
 
 const HEADER: &str = include_str!("../../../include/splicereel.h");
 
@@ -83,6 +85,23 @@ fn reach_is_told_where_the_header_says() {
         assert_eq!(places, answer);
         assert_eq!(told[3..], [7; 5]);
     }
+}
+
+#[test]
+fn moves_are_told_where_the_header_says() {
+    let net = westerby().bytes();
+    let (mut told, mut output) = (Told::from([7; 8]), [0; 327]);
+    assert_eq!(move_up(&net, &mut output, &mut told), 0);
+    assert_eq!(told_at(&told, "SPLICEREEL_MOVE_BYTES"), 327);
+    assert_eq!(told[1..], [7; 7]);
+    let mut back = [0; 307];
+    assert_eq!(move_back(&output, &mut back, &mut told), 0);
+    assert_eq!(told_at(&told, "SPLICEREEL_MOVE_BYTES"), 307);
+    // A refusal tells its number alone.
+    let mut told = Told::from([7; 8]);
+    assert_eq!(move_up(&output, &mut back, &mut told), 16);
+    assert_eq!(move_back(&output, &mut [], &mut told), 18);
+    assert_eq!(told, [7; 8]);
 }
 
 #[test]

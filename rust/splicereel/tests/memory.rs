@@ -35,7 +35,7 @@ fn watched<T>(call: impl FnOnce() -> T) -> (T, usize) {
 }
 
 /// With N nodes and S segments: 32 bytes for a segment and a head, 8 for each
-/// run's numbers, 16 for each entry of a map.
+/// run's numbers, 16 for each entry of a map, and of a moved network its bytes.
 #[test]
 fn a_town_allocates_by_its_own_size() {
     let text: &[u8] = include_bytes!("../../../towns/block-town.txt");
@@ -53,6 +53,12 @@ fn a_town_allocates_by_its_own_size() {
     assert!(map.is_ok() && most <= 16 * 4, "{most}");
     let (found, most) = watched(|| network.nearest(0, Level::Four, [2]));
     assert!(found.is_ok() && most <= 8 * 6, "{most}");
+    let newer = b"010200020001FA\n0200000200010601F4010301191A020000000000000000000000000000C6\n";
+    let newer = Network::read(newer).expect("a street");
+    let (county, most) = watched(|| newer.to_county().expect("a move"));
+    assert_eq!(most, 7 + 32);
+    let (town, most) = watched(|| county.to_town());
+    assert!(town == Ok(newer) && most == 7 + 30, "{most}");
     let (_, most) = watched(|| [network.judge_segment(0).is_ok(); 2]);
     assert_eq!(most, 0);
     let (_, most) = watched(|| Network::refused_line(text).is_none());

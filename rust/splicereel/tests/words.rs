@@ -34,8 +34,8 @@ fn refusals_have_the_same_words() {
             "{name}"
         );
     }
-    assert_eq!(numbers.len(), 16);
-    assert_eq!(HEADER.matches("\n    case SPLICEREEL_").count(), 16);
+    assert_eq!(numbers.len(), 19);
+    assert_eq!(HEADER.matches("\n    case SPLICEREEL_").count(), 19);
 }
 
 #[test]

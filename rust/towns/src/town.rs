@@ -222,6 +222,14 @@ impl Town {
         Town { edition, ..self }
     }
 
+    /// The same town, where no street is longer than an edition allows.
+    pub fn shortened(mut self, edition: u8) -> Town {
+        for street in &mut self.segments {
+            street.length = street.length.min(most_feet(edition));
+        }
+        self
+    }
+
     /// The same town with one more segment.
     pub fn with(mut self, segment: Segment) -> Town {
         self.segments.push(segment);

@@ -98,6 +98,21 @@ fn lengths_of_each_edition() {
     }
 }
 
+/// A town that edition 03 allows alone becomes one that all do.
+#[test]
+fn shortened_streets() {
+    let long = Segment::path(end(0, 0), end(1, 4), 52_801);
+    let town = Town::new(2)
+        .with(long)
+        .with(Segment::path(end(0, 1), end(1, 5), 52_800));
+    let lengths = |edition| {
+        let streets = town.clone().shortened(edition).segments;
+        [streets[0].length, streets[1].length]
+    };
+    assert_eq!(lengths(COUNTY), [52_801, 52_800]);
+    assert_eq!(lengths(NEWER), [52_800, 52_800]);
+}
+
 /// Grids for times: up to a town's size the same streets in each edition; a
 /// county's lengths are few, so that many ways are equally long.
 #[test]

@@ -34,6 +34,16 @@ impl Edition {
         }
     }
 
+    /// The byte of a head that names it.
+    #[inline]
+    pub const fn byte(self) -> u8 {
+        match self {
+            Edition::One => 1,
+            Edition::Two => 2,
+            Edition::Three => 3,
+        }
+    }
+
     /// The edition of a network whose segment frames have `L` bytes: the same,
     /// with what the width tells of it known in advance.
     #[inline]
@@ -215,6 +225,9 @@ mod tests {
         for byte in 0..=255 {
             let named = ALL.into_iter().find(|each| each.0 == byte);
             assert_eq!(Edition::named(byte), named.map(|(_, edition)| edition));
+        }
+        for (byte, edition) in ALL {
+            assert_eq!(edition.byte(), byte);
         }
     }
 

@@ -59,13 +59,34 @@ impl Head {
         let edition = Edition::named(edition)?;
         let nodes = usize::from(u16::from_be_bytes([n1, n0]));
         let segments = usize::from(u16::from_be_bytes([s1, s0]));
-        let good =
-            (1..=edition.most_nodes()).contains(&nodes) && segments <= edition.most_segments();
-        good.then_some(Head {
+        let head = Head {
             edition,
             nodes,
             segments,
-        })
+        };
+        head.in_order().then_some(head)
+    }
+
+    /// Whether the counts are those of a network of the edition.
+    #[inline]
+    pub fn in_order(self) -> bool {
+        let Head {
+            edition,
+            nodes,
+            segments,
+        } = self;
+        (1..=edition.most_nodes()).contains(&nodes) && segments <= edition.most_segments()
+    }
+
+    /// The frame, check computed.
+    pub fn encode(self) -> [u8; HEAD] {
+        // No edition counts more than two bytes hold.
+        let count = |count: usize| (count as u16).to_be_bytes();
+        let ([n1, n0], [s1, s0]) = (count(self.nodes), count(self.segments));
+        let mut frame = [HEAD_KIND, self.edition.byte(), n1, n0, s1, s0, 0];
+        let check = frame.iter().fold(0u8, |check, &b| check.wrapping_sub(b));
+        frame[HEAD - 1] = check;
+        frame
     }
 
     /// The same numbers in an edition.
@@ -116,6 +137,20 @@ impl<const L: usize> Segment<'_, L> {
     pub fn length(self) -> u32 {
         let longer = |feet, &byte: &u8| feet << 8 | u32::from(byte);
         self.0[LENGTH..Place::<L>::FORM].iter().fold(0, longer)
+    }
+
+    /// Writes the segment as a frame of `M` bytes, whose length must hold its feet.
+    ///
+    /// The check stays: what the lengths' bytes sum to does not change, for the
+    /// bytes that one has more are 0.
+    #[inline]
+    pub fn write<const M: usize>(self, frame: &mut [u8; M]) {
+        let (ends, rest) = frame.split_at_mut(LENGTH);
+        let (length, street) = rest.split_at_mut(Place::<M>::FORM - LENGTH);
+        let feet = self.length().to_be_bytes();
+        ends.copy_from_slice(&self.0[..LENGTH]);
+        length.copy_from_slice(&feet[feet.len() - length.len()..]);
+        street.copy_from_slice(&self.0[Place::<L>::FORM..]);
     }
 
     #[inline]

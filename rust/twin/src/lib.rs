@@ -1,10 +1,11 @@
 //! Bicycle stress levels and least-stress routes on a street network.
 //!
-//! An implementation of "document 01" and of Notes 1 to 6 of "document 02",
+//! An implementation of "document 01" and of Notes 1 to 7 of "document 02",
 //! written from those papers alone, to be compared with another one. The calls
 //! are [`read`], [`refused_line`], [`judge_segment`], [`judge_movement`],
-//! [`route`], [`least_stress`], [`reach_map`] and [`nearest`]; [`is_network`]
-//! is the paper's test 8. Refusals are the papers' numbers.
+//! [`route`], [`least_stress`], [`reach_map`], [`nearest`], [`move_up`] and
+//! [`move_back`]; [`is_network`] is the paper's test 8. Refusals are the papers'
+//! numbers.
 //!
 //! | number | meaning |
 //! |-------:|---------|
@@ -23,6 +24,9 @@
 //! | 13 | no movement |
 //! | 14 | `read` would accept the text: no line is refused |
 //! | 15 | a list or marks with fewer entries than there are nodes |
+//! | 16 | a network of an edition that has no move that way |
+//! | 17 | a count or length above the limits of the edition moved to |
+//! | 18 | output shorter than the moved network |
 
 #![forbid(unsafe_code)]
 #![deny(missing_docs)]
@@ -31,6 +35,7 @@
 mod edition;
 mod frame;
 mod level;
+mod moves;
 mod network;
 mod reach;
 mod read;
@@ -38,6 +43,7 @@ mod search;
 
 pub use edition::{MAX_LIST, MAX_NETWORK, MAX_NODES, MAX_RUNS, MAX_SEGMENTS};
 pub use edition::{TOWN_LIST, TOWN_NODES, TOWN_RUNS, TOWN_SEGMENTS};
+pub use moves::{move_back, move_up};
 pub use network::{is_network, judge_movement, judge_segment};
 pub use reach::{nearest, reach_map};
 pub use read::{read, refused_line};

@@ -11,7 +11,7 @@ use towns::sizes::{most_feet, most_nodes, segment_bytes};
 use towns::town::{Approach, Segment, Town, block_town, check, end, head, head_of, line, text_of};
 use towns::town::{COUNTY, NEWER, OLDER};
 use twin::{Found, MAX_NETWORK, is_network, judge_movement, judge_segment, read, refused_line};
-use twin::{nearest, reach_map};
+use twin::{move_back, move_up, nearest, reach_map};
 
 /// Reads twice, here and with the oracle, and tests what the output keeps and
 /// which line is told as refused.
@@ -595,6 +595,8 @@ fn refused_everywhere(bad: &[u8]) {
     let map = reach_map(bad, 9_999, 0, 0, best, previous, &mut []);
     assert_eq!(map, Err(8));
     assert_eq!(nearest(bad, 9_999, 0, &[], best, previous), Err(8));
+    assert_eq!(move_up(bad, &mut []), Err(8));
+    assert_eq!(move_back(bad, &mut []), Err(8));
     assert!(lent.untouched());
 }
 

@@ -100,7 +100,7 @@ impl Faulty {
 }
 
 /// The bytes with another edition in the head.
-fn with_head(net: &[u8], edition: u8) -> Vec<u8> {
+pub fn with_head(net: &[u8], edition: u8) -> Vec<u8> {
     let mut net = net.to_vec();
     net[1] = edition;
     draw::seal(&mut net[..HEAD]);
@@ -109,7 +109,7 @@ fn with_head(net: &[u8], edition: u8) -> Vec<u8> {
 
 /// The frames of one edition as frames of another; a check that was wrong stays
 /// so.
-fn with_frames(net: &[u8], old: u8, new: u8) -> Vec<u8> {
+pub fn with_frames(net: &[u8], old: u8, new: u8) -> Vec<u8> {
     let (head, frames) = net.split_at(HEAD);
     let mut all = head.to_vec();
     for frame in frames.chunks(segment_bytes(old)) {

@@ -2,6 +2,7 @@
 //! document 02: with other fields, which it judges as if they stood there.
 
 mod county;
+mod moves;
 
 use crate::{Fault, Faulty};
 use compare::calls::{Calls, Twin};
