@@ -2,7 +2,7 @@
 ghost use Rattle.std.specs.Prelude.{◌+◌, ◌*◌, ◌≤◌, ◌≡◌, ◌++◌, length, drop};
 ghost use Rattle.frames.specs.Edition.{frame_bytes};
 ghost use Rattle.frames.specs.Frame.{head_bytes};
-ghost use Rattle.network.specs.Network.{head_of, edition_of, segments_of};
+ghost use Rattle.network.specs.Network.{edition_of, segments_of};
 ghost use Rattle.moves.specs.Moved.{head_in, frame_in, moved};
 
 use frames::edition::{extra_of, frame_bytes};
