@@ -2,10 +2,10 @@
 -- Assumes nothing.
 use Prim.Native.Nat.{ℕ, suc, ◌+◌, ◌*◌, ◌-◌, ◌≤◌, ◌<◌}
 use mathlib.Core.Bool.{true, false, ◌&&◌}
-use mathlib.Core.Path.{◌≡◌, refl, sym, ap, ◌∙◌}
+use mathlib.Core.Path.{◌≡◌, sym, ap, ◌∙◌}
 use mathlib.Core.List.{List}
 use native.Mathlib.Omega.{arith}
-use native.Mathlib.Nat.{sub-zero, mul-zero, mul-le-mul_left}
+use native.Mathlib.Nat.{mul-le-mul_left}
 use lib.Dec.{leb}
 use lib.ListN.{length, take, drop}
 use lib.Seq.{drop-drop}
@@ -25,9 +25,6 @@ module _ (e d : ℕ) (net : List ℕ) (m : ℕ) where
   part_fits long s h =
       let p : frame_bytes e * (s + 1) ≤ frame_bytes e * m = mul-le-mul_left (frame_bytes e) (omega arith) in
       omega (arith, p, long, times_next (frame_bytes e) s)
-
-  pub all_left : LengthsLeft e d net m 0
-  all_left = rw (mul-zero, sub-zero) refl
 
   module _ (s : ℕ) (h : s < m) where
     one_left : lengths_ok e d (m - s) (drop (7 + frame_bytes e * s) net)

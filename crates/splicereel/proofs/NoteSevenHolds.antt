@@ -38,7 +38,7 @@ use Rattle.moves.proofs.MovedStreets.{same_segments, same_streets, grade_same, o
 use Rattle.moves.proofs.MovingLaws.{moved_long, Did, did, written_only, same_count}
 use Rattle.splicereel.specs.Judge.{judge_segment, judge_movement, graded, levelled, refused as not_judged}
 use Rattle.splicereel.specs.Promises.{told_route, told_least}
-use Rattle.splicereel.specs.DemandThree.{RouteCall, LeastCall}
+use Rattle.splicereel.specs.DemandThree.{SomeRoute, RouteCall, LeastCall}
 use Rattle.splicereel.specs.NoteSeven.{Changes, SameWay, SameLeast, SameTown, MoveCall, Writes, GivesBack, Older, NoteSeven}
 use Rattle.splicereel.proofs.DemandThreeHolds.{demand_three}
 
@@ -103,6 +103,9 @@ module _ (net : List ℕ) (is : is_network net ≡ true) where
   back_check : edition_of net ≡ 3 → byte (moved 2 net) 6 ≡ (byte net 6 + 1) % 256
   back_check e = omega (arith, new_check 2, e)
 
+through : {P Q R S : Type 0} → (P ↔ Q) → (Q → S) → (S → Q) → (R ↔ S) → P ↔ R
+through p there here r = (λ x. r.1 (there (p.0 x)), λ y. p.1 (here (r.0 y)))
+
 -- ---- a network, and the same in another edition
 module _ (net : List ℕ) (is : is_network net ≡ true) {d : ℕ} (B : Between (edition_of net) d) (fits : within_limits d net ≡ true) where
   changes : Changes d net
@@ -157,28 +160,30 @@ module _ (net : List ℕ) (is : is_network net ≡ true) {d : ℕ} (B : Between 
           let q-in = ltb-true q (runs_of net) k in
           rw (open_same S p p-in, open_same S q q-in, joins_same S p q p-in q-in, movement_same S p q p-in q-in) refl
 
+  -- what there is on one side there is on the other, and a shortest route of each is as long
+  some_there : (t a b : ℕ) → SomeRoute (bicycle net) t a b → SomeRoute (bicycle (moved d net)) t a b
+  some_there t a b some = (some.0, (routes.within t a b some.0).1 some.1)
+
+  some_here : (t a b : ℕ) → SomeRoute (bicycle (moved d net)) t a b → SomeRoute (bicycle net) t a b
+  some_here t a b some = (some.0, (routes.within t a b some.0).0 some.1)
+
+  as_long : (t a b : ℕ) {rs qs : List ℕ} {m n : ℕ} → Shortest (bicycle net) t a b rs → Shortest (bicycle (moved d net)) t a b qs
+      → m ≡ length_of (bicycle net) rs → n ≡ length_of (bicycle (moved d net)) qs → m ≡ n
+  as_long t a b {rs} {qs} s k m n =
+      let there = (routes.shortest t a b qs).0 k in
+      omega (arith, m, n, shortest_same_length s there, routes.lengths a b qs there.within.route)
+
   route_calls : {from to t : ℕ} (call : RouteCall net from to t) (other : RouteCall (moved d net) from to t)
       → SameWay (told_route call.answer) (told_route other.answer)
   route_calls {from} {to} {t} call other =
       let A = demand_three.route call in
       let C = demand_three.route other in
       record {
-        finds = (
-          λ f. let some = A.found_exactly.0 f in C.found_exactly.1 (some.0, (routes.within t from to some.0).1 some.1),
-          λ f. let some = C.found_exactly.0 f in A.found_exactly.1 (some.0, (routes.within t from to some.0).0 some.1),
-        );
-        none = (
-          λ e. C.none_exactly.1 ((routes.none t from to).1 (A.none_exactly.0 e)),
-          λ e. A.none_exactly.1 ((routes.none t from to).0 (C.none_exactly.0 e)),
-        );
-        as_long = λ x y e k. as_long (A.stands x e).shortest (C.stands y k).shortest (A.stands x e).own_length (C.stands y k).own_length;
+        finds = through A.found_exactly (some_there t from to) (some_here t from to) C.found_exactly;
+        none = through A.none_exactly (routes.none t from to).1 (routes.none t from to).0 C.none_exactly;
+        as_long = λ x y e k.
+            as_long t from to (A.stands x e).shortest (C.stands y k).shortest (A.stands x e).own_length (C.stands y k).own_length;
       }
-    where
-      as_long : {rs qs : List ℕ} {m n : ℕ} → Shortest (bicycle net) t from to rs → Shortest (bicycle (moved d net)) t from to qs
-          → m ≡ length_of (bicycle net) rs → n ≡ length_of (bicycle (moved d net)) qs → m ≡ n
-      as_long {rs} {qs} s k m n =
-          let there = (routes.shortest t from to qs).0 k in
-          omega (arith, m, n, shortest_same_length s there, routes.lengths from to qs there.within.route)
 
   least_calls : {from to : ℕ} (call : LeastCall net from to) (other : LeastCall (moved d net) from to)
       → SameLeast (told_least call.answer) (told_least other.answer)
@@ -186,27 +191,12 @@ module _ (net : List ℕ) (is : is_network net ≡ true) {d : ℕ} (B : Between 
       let A = demand_three.least call in
       let C = demand_three.least other in
       record {
-        finds = (
-          λ f. let some = A.found_exactly.0 f in C.found_exactly.1 (some.0, (routes.within 4 from to some.0).1 some.1),
-          λ f. let some = C.found_exactly.0 f in A.found_exactly.1 (some.0, (routes.within 4 from to some.0).0 some.1),
-        );
-        none = (
-          λ e. C.none_exactly.1 ((routes.none 4 from to).1 (A.none_exactly.0 e)),
-          λ e. A.none_exactly.1 ((routes.none 4 from to).0 (C.none_exactly.0 e)),
-        );
+        finds = through A.found_exactly (some_there 4 from to) (some_here 4 from to) C.found_exactly;
+        none = through A.none_exactly (routes.none 4 from to).1 (routes.none 4 from to).0 C.none_exactly;
         same = λ x y e k.
             let tolerance : x.tolerance ≡ y.tolerance = least_unique (A.smallest x e) ((routes.least y.tolerance from to).0 (C.smallest y k)) in
-            let there = (routes.shortest y.tolerance from to (C.stands y k).runs).0 (C.stands y k).shortest in
-            let here = subst (λ (t : ℕ). Shortest (bicycle net) t from to (A.stands x e).runs) tolerance (A.stands x e).shortest in (
-              tolerance,
-              omega (
-                arith,
-                (A.stands x e).own_length,
-                (C.stands y k).own_length,
-                shortest_same_length there here,
-                routes.lengths from to (C.stands y k).runs there.within.route,
-              ),
-            );
+            let here = subst (λ (t : ℕ). Shortest (bicycle net) t from to (A.stands x e).runs) tolerance (A.stands x e).shortest in
+            (tolerance, as_long y.tolerance from to here (C.stands y k).shortest (A.stands x e).own_length (C.stands y k).own_length);
       }
 
   same_town : SameTown net (moved d net)
