@@ -52,7 +52,7 @@ fn least_length(net: &[u8], from: usize, to: usize, tolerance: u8) -> Option<u32
     let mut goals = unknown::<{ sizes::COUNTY }>();
     goals[to] = 1;
     let search = Search { ask, goals: &goals };
-    let key = search.search_in_county(&mut best, &mut previous)?;
+    let key = search.search_in_county(&mut best, &mut previous).ok()?;
     Some(label_in(key))
 }
 

@@ -4,7 +4,7 @@
 -- route to one is shorter than the label where the search stopped: the first node that is no farther is the nearest, and where the search came to its
 -- end there is none.
 -- Assumes nothing.
-use Rattle.std.specs.Prelude.{Option, Some, None}
+use Rattle.std.specs.Prelude.{Result, Ok, Err}
 use mathlib.Core.Path.{◌≡◌, refl, sym, ◌∙◌, ap, subst}
 use mathlib.Core.Bool.{Bool, true, false, not, true≢false}
 use mathlib.Core.List.{List, ◌++◌}
@@ -136,17 +136,22 @@ module _ (marks : List ℕ) (v : ℕ) where
   unfolding is_marked
   not_marked e = ap not (eq-eqb (at marks v) 0 e)
 
--- an exploration at one tolerance has stopped at it: where it met a goal, and where it met none
+-- the key that an exploration tells: that of the run that it met, or the one at which it stopped
+abbrev pub key_told : Result Met ℕ → ℕ
+key_told (Ok met) = met.key
+key_told (Err key) = key
+
+-- an exploration at one tolerance has stopped at it: where it met a goal, and in each case at the key that is told
 pub stop_met : {ask : Ask} {goals best previous : List ℕ} {met : Met} → ask.least ≡ ask.tolerance
     → MetAt ask goals best previous met → StopsAt ask ask.tolerance goals best previous met.key
 stop_met {ask = ask} {met = met} one M =
     let e : met.tolerance ≡ ask.tolerance = omega (arith, M.low, M.high) in
     rw e at M.stop
 
-pub stop_asked : (ask : Ask) (goals best previous : List ℕ) (met : Option Met) → Meets ask goals best previous met → ask.least ≡ ask.tolerance
-    → (m : ℕ) × StopsAt ask ask.tolerance goals best previous m
-stop_asked ask goals best previous (Some met) M one = (met.key, stop_met one M)
-stop_asked ask goals best previous None M one = (M.0.0, M.0.2)
+pub stop_asked : (ask : Ask) (goals best previous : List ℕ) (told : Result Met ℕ) → ask.least ≡ ask.tolerance
+    → Meets ask goals best previous told → StopsAt ask ask.tolerance goals best previous (key_told told)
+stop_asked ask goals best previous (Ok met) one M = stop_met one M
+stop_asked ask goals best previous (Err key) one M = M.0.1
 
 -- ---- the map
 pub clamped_small : (greatest : ℕ) → clamped greatest < unlabelled

@@ -78,7 +78,7 @@ pub fn reach(
         ask: limited,
         goals,
     };
-    search.explore(best, previous);
+    let _ = search.explore(best, previous);
     let lengths = Lengths {
         index: ask.index,
         best,

@@ -54,7 +54,9 @@ pub fn nearest(ask: &Ask, marks: &[u8], best: &mut [u32], previous: &mut [u32]) 
         ask: *ask,
         goals: marks,
     };
-    let met = search.explore(best, previous)?;
+    let Ok(met) = search.explore(best, previous) else {
+        return None;
+    };
     let length = label_in(met.key);
     let lengths = Lengths {
         index: ask.index,

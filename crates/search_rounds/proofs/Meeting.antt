@@ -3,7 +3,7 @@
 use mathlib.Core.List.{List}
 use Prim.Native.Nat.{ℕ, ◌-◌, ◌≤◌, ◌<◌}
 use native.Mathlib.Omega.{arith}
-use Rattle.std.specs.Prelude.{Some, None}
+use Rattle.std.specs.Prelude.{Ok, Err}
 use Rattle.search_relaxing.specs.declared.Ask.{Ask}
 use Rattle.search_rounds.specs.declared.explore.Met.{Met}
 use Rattle.search_rounds.specs.Steps.Searches.{Stopped, NothingMet, Meets}
@@ -18,10 +18,10 @@ NoneBelow ask goals = ask.least < ask.tolerance → NothingMet ask (ask.toleranc
 
 module _ {ask : Ask} {goals : List ℕ} {best previous : List ℕ} where
   -- a search at a tolerance met nothing: so it was, whatever is written over its labels
-  pub nothing_met : (t : ℕ) → Stopped ask t goals best previous None → NothingMet ask t goals
-  nothing_met t m = record { best = best; previous = previous; key = m.0; beyond = m.1; stop = m.2 }
+  pub nothing_met : (t : ℕ) → {key : ℕ} → Stopped ask t goals best previous (Err key) → NothingMet ask t goals
+  nothing_met t {key} m = record { best = best; previous = previous; key = key; beyond = m.0; stop = m.1 }
 
-  pub lower_met : {met : Met} → ask.least < ask.tolerance → Meets (lower ask) goals best previous (Some met) → Meets ask goals best previous (Some met)
+  pub lower_met : {met : Met} → ask.least < ask.tolerance → Meets (lower ask) goals best previous (Ok met) → Meets ask goals best previous (Ok met)
   lower_met l m =
       record {
         low = m.low;
@@ -31,9 +31,9 @@ module _ {ask : Ask} {goals : List ℕ} {best previous : List ℕ} where
         none_below = λ h. let n = m.none_below h in record { best = n.best; previous = n.previous; key = n.key; beyond = n.beyond; stop = n.stop };
       }
 
-  pub lower_nothing : Meets (lower ask) goals best previous None → NoneBelow ask goals
+  pub lower_nothing : {key : ℕ} → Meets (lower ask) goals best previous (Err key) → NoneBelow ask goals
   lower_nothing m h = nothing_met (ask.tolerance - 1) m.0
 
-  pub met_here : {key : ℕ} → ask.least ≤ ask.tolerance → NoneBelow ask goals → Stopped ask ask.tolerance goals best previous (Some key)
-      → Meets ask goals best previous (Some (record { key = key; tolerance = ask.tolerance }))
+  pub met_here : {key : ℕ} → ask.least ≤ ask.tolerance → NoneBelow ask goals → Stopped ask ask.tolerance goals best previous (Ok key)
+      → Meets ask goals best previous (Ok (record { key = key; tolerance = ask.tolerance }))
   met_here l n s = record { low = l; high = omega arith; below_limit = s.0; stop = s.1; none_below = n }

@@ -43,7 +43,7 @@ impl Search<'_, '_> {
         &self,
         best: &mut [u32],
         previous: &mut [u32],
-    ) -> Option<u64>
+    ) -> Result<u64, u64>
         requires { Room self.now.ask.runs best.old previous.old × Enough self.now.ask KEYS NODES }
         ensures { Stopped self.now.ask self.now.ask.tolerance self.now.goals.now best.new previous.new result }
     {
@@ -55,7 +55,7 @@ impl Search<'_, '_> {
     // The same in a county's memory, which has room for every network. It is never inlined: a town takes no stack for a county.
     #[inline(never)]
     #[tactic(auto, using(network::proofs::NetworkLaws::nodes_most, network::proofs::NetworkLaws::segments_most, frames::proofs::EditionLaws::nodes_few, frames::proofs::EditionLaws::segments_few))]
-    pub fn search_in_county(&self, best: &mut [u32], previous: &mut [u32]) -> Option<u64>
+    pub fn search_in_county(&self, best: &mut [u32], previous: &mut [u32]) -> Result<u64, u64>
         requires { Room self.now.ask.runs best.old previous.old }
         ensures { Stopped self.now.ask self.now.ask.tolerance self.now.goals.now best.new previous.new result }
     {
@@ -64,7 +64,7 @@ impl Search<'_, '_> {
 
     // The same at a tolerance, in a town's memory where that has room for the network, else in a county's.
     #[tactic(auto, unfolding(frames::specs::Steps::Sizes::is_town))]
-    fn search_at(&self, tolerance: u8, best: &mut [u32], previous: &mut [u32]) -> Option<u64>
+    fn search_at(&self, tolerance: u8, best: &mut [u32], previous: &mut [u32]) -> Result<u64, u64>
         requires { Room self.now.ask.runs best.old previous.old }
         ensures { Stopped self.now.ask tolerance self.now.goals.now best.new previous.new result }
     {
@@ -87,16 +87,20 @@ impl Search<'_, '_> {
         at.search_in_county(best, previous)
     }
 
-    // Searches at the tolerances from `least` to the one that is asked, until one of them meets a goal.
-    pub fn explore(&self, best: &mut [u32], previous: &mut [u32]) -> Option<Met>
+    // Searches at the tolerances from `least` to the one that is asked, until one of them meets a goal. Where none does, the key at which the last of them
+    // stopped is the error.
+    pub fn explore(&self, best: &mut [u32], previous: &mut [u32]) -> Result<Met, u64>
         requires { Room self.now.ask.runs best.old previous.old × (self.now.ask.least ≤ self.now.ask.tolerance) }
         ensures { Meets self.now.ask self.now.goals.now best.new previous.new result }
     {
+        // At least one tolerance is asked, so a search puts its own key here.
+        let mut stopped = self.ask.limit;
         for tolerance in self.ask.least..=self.ask.tolerance {
-            if let Some(key) = self.search_at(tolerance, best, previous) {
-                return Some(Met { key, tolerance });
+            match self.search_at(tolerance, best, previous) {
+                Ok(key) => return Ok(Met { key, tolerance }),
+                Err(key) => stopped = key,
             }
         }
-        None
+        Err(stopped)
     }
 }

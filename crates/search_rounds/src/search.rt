@@ -30,15 +30,16 @@ impl Search<'_, '_> {
         self.goals[node] != 0
     }
 
-    // Settles runs in the order of their keys until the next one arrives at a goal, and gives its key; none where no key below the limit is left. It asks a
-    // copy of its own: what stands behind a reference would be read again after each label that is written.
+    // Settles runs in the order of their keys until the next one arrives at a goal, and gives its key; or until its key is not below the limit, and then that
+    // key is the error, TOP where no labelled run is left. It asks a copy of its own: what stands behind a reference would be read again after each label that
+    // is written.
     pub fn search(
         &self,
         best: &mut [u32],
         previous: &mut [u32],
         tree: &mut [u64],
         unfound: &mut [u8],
-    ) -> Option<u64>
+    ) -> Result<u64, u64>
         requires { Room self.now.ask.runs best.old previous.old × Unused self.now.ask tree.old unfound.old }
         ensures { Stopped self.now.ask self.now.ask.tolerance self.now.goals.now best.new previous.new result }
     {
@@ -49,10 +50,10 @@ impl Search<'_, '_> {
         let mut key = least(ask.runs, tree);
         while key < ask.limit {
             if search.is_goal(run_in(key)) {
-                return Some(key);
+                return Ok(key);
             }
             key = settle(ask, key, best, previous, tree, unfound);
         }
-        None
+        Err(key)
     }
 }

@@ -43,7 +43,9 @@ pub fn find(
     }
     goals[to] = 1;
     let search = Search { ask: *ask, goals };
-    let met = search.explore(best, previous)?;
+    let Ok(met) = search.explore(best, previous) else {
+        return None;
+    };
     let key = met.key;
     let last = run_in(key);
     let count = count_runs(previous, ask.runs, last);

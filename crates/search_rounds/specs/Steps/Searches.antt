@@ -1,6 +1,6 @@
 -- What the steps of a search promise to each other: what holds before its first round, and what a round does.
 -- Assumes nothing.
-use Rattle.std.specs.Prelude.{◌≡◌, false, List, Option, Some, None, ℕ, ◌*◌, ◌-◌, ◌/◌, ◌≤◌, ◌<◌, length}
+use Rattle.std.specs.Prelude.{◌≡◌, false, List, Result, Ok, Err, ℕ, ◌*◌, ◌-◌, ◌/◌, ◌≤◌, ◌<◌, length}
 use Rattle.routes.specs.Reach.{is_marked}
 use Rattle.routes.specs.Steps.Labels.{edge_of}
 use Rattle.queue.specs.Steps.Queue.{top, Queue, Empty}
@@ -79,10 +79,10 @@ abbrev pub StopsAt : Ask → ℕ → List ℕ → List ℕ → List ℕ → ℕ 
 StopsAt ask t goals best previous key =
     Explored (run_graph (network_in ask) ask.runs t ask.from) (turns_back (network_in ask)) (goal_at (network_in ask) goals) best previous ask.limit key
 
--- What it met: a run that arrives at a goal, by its key, which is below the limit; or none.
-abbrev pub Stopped : Ask → ℕ → List ℕ → List ℕ → List ℕ → Option ℕ → Type 0
-Stopped ask t goals best previous (Some key) = (key < ask.limit) × StopsAt ask t goals best previous key
-Stopped ask t goals best previous None = (key : ℕ) × (ask.limit ≤ key) × StopsAt ask t goals best previous key
+-- What it met: a run that arrives at a goal, by its key, which is below the limit; or none, and the error is the key at which it stopped.
+abbrev pub Stopped : Ask → ℕ → List ℕ → List ℕ → List ℕ → Result ℕ ℕ → Type 0
+Stopped ask t goals best previous (Ok key) = (key < ask.limit) × StopsAt ask t goals best previous key
+Stopped ask t goals best previous (Err key) = (ask.limit ≤ key) × StopsAt ask t goals best previous key
 
 -- A search at a tolerance met no goal: its labels, which a later search has written over, were these.
 pub record NothingMet (ask : Ask) (t : ℕ) (goals : List ℕ) : Type 0 where
@@ -101,8 +101,8 @@ pub record MetAt (ask : Ask) (goals : List ℕ) (best previous : List ℕ) (met 
   -- of those below it, the greatest
   pub none_below : ask.least < met.tolerance → NothingMet ask (met.tolerance - 1) goals
 
--- None: the search at the greatest of them, which came last, met nothing; nor did the one below it, where one was asked.
-abbrev pub Meets : Ask → List ℕ → List ℕ → List ℕ → Option Met → Type 0
-Meets ask goals best previous (Some met) = MetAt ask goals best previous met
-Meets ask goals best previous None =
-    Stopped ask ask.tolerance goals best previous None × (ask.least < ask.tolerance → NothingMet ask (ask.tolerance - 1) goals)
+-- An error: the search at the greatest of them, which came last, stopped at this key and met nothing; nor did the one below it, where one was asked.
+abbrev pub Meets : Ask → List ℕ → List ℕ → List ℕ → Result Met ℕ → Type 0
+Meets ask goals best previous (Ok met) = MetAt ask goals best previous met
+Meets ask goals best previous (Err key) =
+    Stopped ask ask.tolerance goals best previous (Err key) × (ask.least < ask.tolerance → NothingMet ask (ask.tolerance - 1) goals)

@@ -34,5 +34,5 @@ list_nodes-requires c =
 pub returns : goal.returns
 returns c =
     let A = c.requires.0 in
-    map_from_stop A c.requires.2 c.clamp-farthest.ensures c.key_of.ensures (stop_asked _ _ _ _ _ c.explore.ensures A.one).1
+    map_from_stop A c.requires.2 c.clamp-farthest.ensures c.key_of.ensures (stop_asked _ _ _ _ _ A.one c.explore.ensures)
     (rw c.nodes.ensures at c.list_nodes.ensures)

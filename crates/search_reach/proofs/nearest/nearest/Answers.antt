@@ -18,11 +18,11 @@ pub explore-requires : goal.explore-requires
 explore-requires c =
     (c.requires.1, omega (arith, c.requires.0.one))
 
-pub returns-in_err-met : goal.returns-in_err-met
-returns-in_err-met c =
+pub returns-in_default : goal.returns-in_default
+returns-in_default c =
     let A = c.requires.0 in
-    let s = c.in_err-met.ensures.0 in
-    rw c.from_residual.ensures (stop_none_marked A _ (not_marked _ _ c.if-marks-from-ne0.false) s.2 (omega (arith, s.1, A.whole)))
+    let s = c.in_default.ensures.0 in
+    stop_none_marked A _ (not_marked _ _ c.if-marks-from-ne0.false) s.1 (omega (arith, s.0, A.whole))
 
 pub first_near-requires : goal.first_near-requires
 first_near-requires c =
@@ -31,7 +31,7 @@ first_near-requires c =
 pub returns-in_err-node : goal.returns-in_err-node
 returns-in_err-node c =
     let A = c.requires.0 in
-    let M = c.in_ok-met.ensures in
+    let M = c.in-Ok.ensures in
     absurd
     (stop_some_near A _ (not_marked _ _ c.if-marks-from-ne0.false) (stop_met A.one M) (omega (arith, M.below_limit, A.whole))
     (rw (c.nodes.ensures, c.label_in-length.ensures) at c.in_err-node.ensures))
@@ -39,7 +39,7 @@ returns-in_err-node c =
 pub returns : goal.returns
 returns c =
     let A = c.requires.0 in
-    let M = c.in_ok-met.ensures in
+    let M = c.in-Ok.ensures in
     let label = c.label_in-length.ensures in
     rw label
     (stop_near A _ (not_marked _ _ c.if-marks-from-ne0.false) (stop_met A.one M) (omega (arith, M.below_limit, A.whole))

@@ -16,16 +16,16 @@ pub explore-requires : goal.explore-requires
 explore-requires c =
     (c.requires.1.scratch, c.requires.0.order)
 
-pub returns-in_err-met : goal.returns-in_err-met
-returns-in_err-met c =
-    let s = c.in_err-met.ensures.0 in
-    rw c.from_residual.ensures (refl, none_there c.requires.0 c.requires.2 _ c.if-ask-to.false s.1 s.2)
+pub returns-in_default : goal.returns-in_default
+returns-in_default c =
+    let s = c.in_default.ensures.0 in
+    (refl, none_there c.requires.0 c.requires.2 _ c.if-ask-to.false s.0 s.1)
 
 pub count_runs-count-requires : goal.count_runs-count-requires
 count_runs-count-requires c = (
   few_runs (ask_counted c.args.ask.now),
   omega (arith, c.requires.1.scratch.previous_fits, c.explore.auto.previous),
-  rw c.run_in-last.ensures (met_ends c.requires.0 c.requires.2 c.in_ok-met.ensures),
+  rw c.run_in-last.ensures (met_ends c.requires.0 c.requires.2 c.in-Ok.ensures),
 )
 
 pub fill-requires : goal.fill-requires
@@ -43,6 +43,6 @@ returns c =
     let run = c.run_in-last.ensures in
     let K = rw run at c.count_runs-count.ensures in
     rw c.label_in.ensures
-    (first_found c.requires.0 c.requires.2 c.in_ok-met.ensures c.if-ask-to.false K
+    (first_found c.requires.0 c.requires.2 c.in-Ok.ensures c.if-ask-to.false K
     (tail_placed K c.args.place c.args.buffer.now (rw run at c.fill.ensures))
     (rw run at c.route_level-level.ensures))

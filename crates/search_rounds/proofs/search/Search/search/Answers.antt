@@ -56,4 +56,4 @@ loop-key-preserved c =
     }
 
 pub returns : goal.returns
-returns c = (_, c.loop-key-test.false, search_ends (fair (ask_counted c.args.self.now.ask)) c.loop-key.invariant.search c.loop-key-test.false)
+returns c = (omega arith, search_ends (fair (ask_counted c.args.self.now.ask)) c.loop-key.invariant.search c.loop-key-test.false)
