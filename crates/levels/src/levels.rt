@@ -47,19 +47,19 @@ fn put_refusal(refusal: Refusal, line: usize, page: &mut Page)
     put_field(line, '\n', page);
 }
 
-// A line for each segment of the text's network, or one line for its refusal. So many bytes have no more lines than a page has room for.
-pub fn levels(text: &[u8]) -> Page
+// On a page that is lent: a line for each segment of the text's network, or one line for its refusal. So many bytes have no more lines than a page has room
+// for.
+pub fn levels(text: &[u8], page: &mut Page)
     requires { length text.now ≤ most_input }
-    ensures { result.bytes ≡ levels_of text.now }
+    ensures { page.new.bytes ≡ levels_of text.now }
 {
     let mut net = [0; edition::MOST_KEPT];
-    let mut page = Page::new();
+    page.clear();
     match read(text, &mut net) {
-        Err(Refused { refusal, line }) => put_refusal(refusal, line, &mut page),
+        Err(Refused { refusal, line }) => put_refusal(refusal, line, page),
         Ok(count) => {
             let net = Network::of(&net[..count]);
-            put_levels(&net, &mut page);
+            put_levels(&net, page);
         }
     }
-    page
 }

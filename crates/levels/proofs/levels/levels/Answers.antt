@@ -11,7 +11,7 @@ pub of-net-requires : goal.of-net-requires
 of-net-requires c = (kept_front c.in-Ok.is c.read.ensures).0
 
 pub put_levels-requires : goal.put_levels-requires
-put_levels-requires c = (c.new-page.ensures, rw c.of-net.ensures (enough c.read.ensures refl c.in-Ok.is c.requires))
+put_levels-requires c = (c.clear.ensures, rw c.of-net.ensures (enough c.read.ensures refl c.in-Ok.is c.requires))
 
 pub returns-in-Err : goal.returns-in-Err
 returns-in-Err c = c.put_refusal.ensures ∙ prints_refusal c.read.ensures refl c.in-Err.is
