@@ -14,14 +14,27 @@ use Rattle.lists.proofs.Facts.{lt_or_ge, last_or_below}
 use Rattle.routes.specs.Steps.Labels.{unlabelled}
 use Rattle.routes.specs.Steps.Reach.{LeastArrival}
 use Rattle.network.specs.Network.{nodes_of}
+use Rattle.network.specs.Steps.Corners.{IndexOf}
 use Rattle.streets.specs.Runs.{runs_of, finish}
 use Rattle.streets.specs.Bicycle.{bicycle}
 use Rattle.streets.specs.Steps.Places.{RunOf}
 use Rattle.streets.specs.Steps.Leaving.{opposite, Entry}
 use Rattle.streets.proofs.LeavingLaws.{entry_leaves, leaving_entry, opposed}
 use Rattle.search_relaxing.specs.declared.Ask.{Ask}
-use Rattle.search_relaxing.specs.Steps.Counted.{network_in, index_in}
+use Rattle.search_relaxing.specs.Steps.Counted.{Counted, network_in, index_in}
+use Rattle.search_relaxing.proofs.CountedLaws.{ask_counted}
 use Rattle.search_reach.specs.Steps.Arrivals.{label_behind, least_behind, least_arrival, LookedAt}
+
+-- ---- what is searched
+-- A network that Read could keep, its runs counted; an index of its runs; a node of it to begin at. The laws hold of any such, asked or not.
+pub record Ready (net index : List ℕ) (runs from : ℕ) : Type 0 where
+  pub counted : Counted net runs
+  pub indexed : IndexOf net index
+  pub from_node : from < nodes_of net
+
+-- what a question holds is such
+pub ready : (ask : Ask) → Ready (network_in ask) (index_in ask) ask.runs ask.from
+ready ask = record { counted = ask_counted ask; indexed = ask.indexed; from_node = ask.from_node }
 
 -- ---- the least of the labels
 module _ (index best : List ℕ) (place : ℕ) where
@@ -60,35 +73,29 @@ label_whose net best (suc r) E e h =
     let L = E.leaving r (sym (add-one r)) in
     (opposite r, omega (arith, L.inside), (opposed net r).ends ∙ L.from, e)
 
-module _ (ask : Ask) where
-  abbrev net : List ℕ
-  net = network_in ask
-
-  abbrev index : List ℕ
-  index = index_in ask
-
+module _ {net index : List ℕ} {runs from : ℕ} (Y : Ready net index runs from) where
   -- every node has its eight entries, and the runs that arrive by them their labels
-  pub looked_at : {best : List ℕ} → ask.runs ≤ length best → (node : ℕ) → node < nodes_of net → LookedAt index best node
+  pub looked_at : {best : List ℕ} → runs ≤ length best → (node : ℕ) → node < nodes_of net → LookedAt index best node
   looked_at fits node l =
       record {
-        room = omega (arith, ask.indexed.room);
+        room = omega (arith, Y.indexed.room);
         each = λ leg low.
             record {
               behind = λ r e.
-                  omega (arith, ((entry_leaves net ask.streets.net.kept ask.indexed l low).leaving r e).inside, ask.counted);
+                  omega (arith, ((entry_leaves net Y.counted.network Y.indexed l low).leaving r e).inside, Y.counted.count);
             };
       }
 
   -- what the code reads is the least arrival
   pub least_arrival_lem : (best : List ℕ) (node : ℕ) → node < nodes_of net → LeastArrival (bicycle net) (at best) node (least_arrival index best node)
   least_arrival_lem best node l =
-      let is = ask.streets.net.kept in
+      let is = Y.counted.network in
       record {
         least = λ q i e.
             let there : RunOf net (opposite q) = record { network = is; inside = omega arith } in
-            let s = leaving_entry net is ask.indexed there node ((opposed net q).starts ∙ e) in
+            let s = leaving_entry net is Y.indexed there node ((opposed net q).starts ∙ e) in
             omega (arith, least_low index best (node * 8) 8 s.0 s.1, label_of best q s.2);
         whose = λ h.
             let s = least_some index best (node * 8) 8 h in
-            label_whose net best (at index (node * 8 + s.0)) (entry_leaves net is ask.indexed l s.1) s.2 h;
+            label_whose net best (at index (node * 8 + s.0)) (entry_leaves net is Y.indexed l s.1) s.2 h;
       }

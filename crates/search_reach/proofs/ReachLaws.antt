@@ -36,17 +36,16 @@ use Rattle.search_labels.specs.Steps.Keys.{label_key, label_in, run_in}
 use Rattle.search_labels.specs.Steps.Search.{loose, IsSound, Turned, Explored}
 use Rattle.search_labels.proofs.Invariant.{fair_paved}
 use Rattle.search_relaxing.specs.declared.Ask.{Ask}
-use Rattle.search_relaxing.specs.Steps.Counted.{Counted, network_in, index_in, run_graph, asked_graph, goal_at}
+use Rattle.search_relaxing.specs.Steps.Counted.{Counted, network_in, index_in, run_graph, goal_at}
 use Rattle.search_relaxing.specs.Steps.Unfound.{Unknown, turns_back}
-use Rattle.search_relaxing.proofs.CountedLaws.{counted, fair, run_of, ask_counted}
+use Rattle.search_relaxing.proofs.CountedLaws.{counted, fair, run_of}
 use Rattle.search_relaxing.proofs.TestLaws.{turns_back_lem}
 use Rattle.search_rounds.specs.declared.explore.Met.{Met}
 use Rattle.search_rounds.specs.Steps.Searches.{StopsAt, MetAt, Meets}
-use Rattle.search_routes.specs.Steps.Answered.{Unmarked}
 use Rattle.search_reach.specs.Steps.Arrivals.{least_arrival, length_to}
-use Rattle.search_reach.specs.Steps.Map.{clamped, AskedAt, NodesListed}
+use Rattle.search_reach.specs.Steps.Map.{clamped, NodesListed}
 use Rattle.search_reach.specs.Steps.Nearest.{is_far, Marks, AllMarkable, FirstNear, NearFound}
-use Rattle.search_reach.proofs.ArrivalLaws.{looked_at, least_arrival_lem}
+use Rattle.search_reach.proofs.ArrivalLaws.{Ready, ready, looked_at, least_arrival_lem}
 
 -- ---- the lengths that the code reads, at the start and elsewhere
 length_start : (index best : List ℕ) (from : ℕ) → length_to index best from from ≡ 0
@@ -64,66 +63,66 @@ unfolding joins
 joined_meets net p q e =
     eqb-true (finish net p) (start net q) (and_true (eqb (finish net p) (start net q)) (not (eqb (arrival_leg net p) (leaving_leg net q))) e).0
 
-module _ (ask : Ask) where
-  all_runs : Counted (network_in ask) (bicycle (network_in ask)).runs
-  all_runs = counted ask.streets.net.kept refl
+module _ {net index : List ℕ} {runs from : ℕ} (Y : Ready net index runs from) where
+  all_runs : Counted net (bicycle net).runs
+  all_runs = counted Y.counted.network refl
 
   -- a way back ends where the run before it began
-  way_back_ends : (u r : ℕ) → u < (bicycle (network_in ask)).runs → r < (bicycle (network_in ask)).runs → turns_back (network_in ask) u r ≡ true → finish (network_in ask) r ≡ start (network_in ask) u
+  way_back_ends : (u r : ℕ) → u < (bicycle net).runs → r < (bicycle net).runs → turns_back net u r ≡ true → finish net r ≡ start net u
   way_back_ends u r i j e =
-      let b = turns_back_lem (network_in ask) u r e in
-      back_ends (network_in ask) ask.streets.net.kept ask.indexed (run_of all_runs i) (run_of all_runs j) b.from b.by
+      let b = turns_back_lem net u r e in
+      back_ends net Y.counted.network Y.indexed (run_of all_runs i) (run_of all_runs j) b.from b.by
 
   module _ (t : ℕ) where
-    paved : Paved (graph_of (bicycle (network_in ask)) t ask.from)
-    paved = fair_paved (graph_of (bicycle (network_in ask)) t ask.from) (fair all_runs)
+    paved : Paved (graph_of (bicycle net) t from)
+    paved = fair_paved (graph_of (bicycle net) t from) (fair all_runs)
 
     module _ {goal : ℕ → Bool} {best previous : List ℕ} {limit m : ℕ}
-        (S : Explored (run_graph (network_in ask) ask.runs t ask.from) (turns_back (network_in ask)) goal best previous limit m) where
+        (S : Explored (run_graph net runs t from) (turns_back net) goal best previous limit m) where
       -- the stop, over all runs of the network
-      whole_stop : Explored (graph_of (bicycle (network_in ask)) t ask.from) (turns_back (network_in ask)) goal best previous limit m
+      whole_stop : Explored (graph_of (bicycle net) t from) (turns_back net) goal best previous limit m
       whole_stop =
-          subst (λ (n : ℕ). Explored (run_graph (network_in ask) n t ask.from) (turns_back (network_in ask)) goal best previous limit m) ask.counted S
+          subst (λ (n : ℕ). Explored (run_graph net n t from) (turns_back net) goal best previous limit m) Y.counted.count S
 
       -- a label has room for one run more
-      stop_room : (r : ℕ) → r < (bicycle (network_in ask)).runs → at best r < unlabelled → at best r + county_feet < unlabelled
+      stop_room : (r : ℕ) → r < (bicycle net).runs → at best r < unlabelled → at best r + county_feet < unlabelled
       stop_room r l h =
-          let w = loose (graph_of (bicycle (network_in ask)) t ask.from) in
+          let w = loose (graph_of (bicycle net) t from) in
           let F = fair all_runs in
           omega (arith, label_bound w (at best) (at previous) (fair_paved w F) whole_stop.stop.whence county_feet F.short r l h, F.room)
 
       -- the run before has no greater label
-      before_less : (r : ℕ) → r < (bicycle (network_in ask)).runs → at best r < unlabelled → at previous r < (bicycle (network_in ask)).runs
+      before_less : (r : ℕ) → r < (bicycle net).runs → at best r < unlabelled → at previous r < (bicycle net).runs
           → at best (at previous r) ≤ at best r
       before_less r l h i =
-          let w = loose (graph_of (bicycle (network_in ask)) t ask.from) in
+          let w = loose (graph_of (bicycle net) t from) in
           ⊎_elim
           (λ (s : First w (at best) (at previous) r). absurd (omega (arith, s.alone, (fair all_runs).small)))
           (λ (s : Next w (at best) (at previous) r (at previous r)). omega (arith, s.exact))
           (whole_stop.stop.whence r l h)
 
       -- each label is at least the length of a route to the node where its run arrives
-      stop_attained : 1 ≤ t → Attained (bicycle (network_in ask)) t ask.from (at best)
+      stop_attained : 1 ≤ t → Attained (bicycle net) t from (at best)
       stop_attained one =
-          let g = bicycle (network_in ask) in
-          let w = graph_of g t ask.from in
+          let g = bicycle net in
+          let w = graph_of g t from in
           record {
             some = λ r l h.
                 ⊎_elim
-                (λ (s : IsSound w best previous r). sound_attained g t ask.from (at best) (at previous) paved s.0 r l s.1)
-                (λ (s : Turned w (turns_back (network_in ask)) best previous r (at previous r)).
-                turned_attained g t ask.from (at best) (at previous) paved one (joined_meets (network_in ask)) s.sound.0 (at previous r) r s.sound.1
+                (λ (s : IsSound w best previous r). sound_attained g t from (at best) (at previous) paved s.0 r l s.1)
+                (λ (s : Turned w (turns_back net) best previous r (at previous r)).
+                turned_attained g t from (at best) (at previous) paved one (joined_meets net) s.sound.0 (at previous r) r s.sound.1
                 (way_back_ends (at previous r) r s.inside l s.goes_back) (before_less r l h s.inside))
                 (whole_stop.labels r l h);
           }
 
       -- so the lengths that the code reads are the distances
       pub stop_distances : {farthest : ℕ} → 1 ≤ t → farthest ≤ label_in m → farthest < unlabelled
-          → Distances (bicycle (network_in ask)) (nodes_of (network_in ask)) t ask.from farthest (length_to (index_in ask) best ask.from)
+          → Distances (bicycle net) (nodes_of net) t from farthest (length_to index best from)
       stop_distances {farthest} one low small =
-          arrivals_distances (bicycle (network_in ask)) (nodes_of (network_in ask)) t ask.from farthest (at best) (length_to (index_in ask) best ask.from) (label_in m) one paved
-          whole_stop.stop.follows (stop_attained one) low small (length_start (index_in ask) best ask.from)
-          (λ b l apart. rw (length_elsewhere (index_in ask) best ask.from b apart) (least_arrival_lem ask best b l))
+          arrivals_distances (bicycle net) (nodes_of net) t from farthest (at best) (length_to index best from) (label_in m) one paved
+          whole_stop.stop.follows (stop_attained one) low small (length_start index best from)
+          (λ b l apart. rw (length_elsewhere index best from b apart) (least_arrival_lem Y best b l))
 
 -- ---- questions
 -- a node is marked just where its byte is not 0
@@ -164,46 +163,44 @@ unmarked_node {goals = goals} U v l = not_marked goals v (U.none v l)
 follows_less : {w : Graph} {best : ℕ → ℕ} {bound less : ℕ} → less ≤ bound → Follows w best bound → Follows w best less
 follows_less l L = record { sources = L.sources; edges = λ p r i h b. L.edges p r i h (omega arith) }
 
-module _ {ask : Ask} (A : AskedAt ask) where
+module _ {net index : List ℕ} {runs from : ℕ} (Y : Ready net index runs from) (t : ℕ) (one : 1 ≤ t) where
   -- with no goal a search stops at its limit
-  stops_at_limit : {goals best previous : List ℕ} {limit m : ℕ} → Unmarked ask goals → limit ≤ top
-      → Explored (asked_graph ask) (turns_back (network_in ask)) (goal_at (network_in ask) goals) best previous limit m → limit ≤ m
+  stops_at_limit : {goals best previous : List ℕ} {limit m : ℕ} → Unknown (nodes_of net) goals → limit ≤ top
+      → Explored (run_graph net runs t from) (turns_back net) (goal_at net goals) best previous limit m → limit ≤ m
   unfolding goal_at
   stops_at_limit {limit = limit} {m} U small S =
       ⊎_elim
       (λ (h : m < limit).
-      let R = run_of (ask_counted ask) (S.stop.whose (omega arith)).inside in
-      absurd (true≢false (sym (S.stop.goal_met h) ∙ unmarked_node U (finish (network_in ask) (run_in m)) (finish_below R))))
+      let R = run_of Y.counted (S.stop.whose (omega arith)).inside in
+      absurd (true≢false (sym (S.stop.goal_met h) ∙ unmarked_node U (finish net (run_in m)) (finish_below R))))
       (λ (h : limit ≤ m). h)
       (lt_or_ge m limit)
 
   -- what the code lists is the map: a length that is clamped is above every label, so that nothing is left out
   stop_map : (greatest : ℕ) {goal : ℕ → Bool} {best previous : List ℕ} {limit m : ℕ} → clamped greatest ≤ label_in m
-      → Explored (asked_graph ask) (turns_back (network_in ask)) goal best previous limit m
-      → ReachMap (bicycle (network_in ask)) (nodes_of (network_in ask)) ask.tolerance ask.from greatest
-      (entries_of (length_to (index_in ask) best ask.from) (clamped greatest) 0 (nodes_of (network_in ask)))
+      → Explored (run_graph net runs t from) (turns_back net) goal best previous limit m
+      → ReachMap (bicycle net) (nodes_of net) t from greatest
+      (entries_of (length_to index best from) (clamped greatest) 0 (nodes_of net))
   stop_map greatest {best = best} low S =
-      let g = bicycle (network_in ask) in
-      let t = ask.tolerance in
-      let a = ask.from in
-      let es = entries_of (length_to (index_in ask) best a) (clamped greatest) 0 (nodes_of (network_in ask)) in
-      let M = distances_map (stop_distances ask t S A.low low (clamped_small greatest)) in
+      let g = bicycle net in
+      let es = entries_of (length_to index best from) (clamped greatest) 0 (nodes_of net) in
+      let M = distances_map (stop_distances Y t S one low (clamped_small greatest)) in
       ⊎_elim
-      (λ (h : greatest < unlabelled). let e : clamped greatest ≡ greatest = omega arith in subst (λ (f : ℕ). ReachMap g (nodes_of (network_in ask)) t a f es) e M)
+      (λ (h : greatest < unlabelled). let e : clamped greatest ≡ greatest = omega arith in subst (λ (f : ℕ). ReachMap g (nodes_of net) t from f es) e M)
       (λ (h : unlabelled ≤ greatest).
       map_clamped (omega arith)
-      (some_short g t a (at best) (clamped greatest) (follows_less low (whole_stop ask t S).stop.follows) A.low (stop_attained ask t S A.low)
-      (λ r l k. omega (arith, stop_room ask t S r l k, h)))
+      (some_short g t from (at best) (clamped greatest) (follows_less low (whole_stop Y t S).stop.follows) one (stop_attained Y t S one)
+      (λ r l k. omega (arith, stop_room Y t S r l k, h)))
       M)
       (lt_or_ge greatest unlabelled)
 
-  pub map_from_stop : {goals best previous before after : List ℕ} {greatest farthest limit m count : ℕ} → Unmarked ask goals
+  pub map_from_stop : {goals best previous before after : List ℕ} {greatest farthest limit m count : ℕ} → Unknown (nodes_of net) goals
       → farthest ≡ clamped greatest → limit ≡ label_key farthest 0
-      → Explored (asked_graph ask) (turns_back (network_in ask)) (goal_at (network_in ask) goals) best previous limit m
-      → NodesListed (index_in ask) best ask.from farthest (nodes_of (network_in ask)) before after count
-      → MapWritten (bicycle (network_in ask)) (nodes_of (network_in ask)) ask.tolerance ask.from greatest before after count
+      → Explored (run_graph net runs t from) (turns_back net) (goal_at net goals) best previous limit m
+      → NodesListed index best from farthest (nodes_of net) before after count
+      → MapWritten (bicycle net) (nodes_of net) t from greatest before after count
   map_from_stop {best = best} {before = before} {greatest = greatest} {farthest} {limit} {m} {count} U far end S N =
-      let es = entries_of (length_to (index_in ask) best ask.from) farthest 0 (nodes_of (network_in ask)) in
+      let es = entries_of (length_to index best from) farthest 0 (nodes_of net) in
       let small = clamped_small greatest in
       let low : clamped greatest ≤ label_in m = omega (arith, stops_at_limit U (omega arith) S) in
       let told : 0 + length (numbers es) ≡ 2 * count = omega (arith, numbers_length es, N.counted) in
@@ -235,58 +232,58 @@ module _ (index best : List ℕ) (from : ℕ) (marks : List ℕ) (feet node : �
       (lt_or_ge feet (length_to index best from node))
 
 -- a marked start is its own nearest
-pub start_near : {ask : Ask} {marks : List ℕ} → AskedAt ask → is_marked marks ask.from ≡ true
-    → NearFound (bicycle (network_in ask)) (nodes_of (network_in ask)) ask.tolerance ask.from marks (record { node = ask.from; length = 0 })
-start_near {ask = ask} A m =
-    record { nearest = start_nearest A.low (paved ask ask.tolerance) ask.from_node m; small = omega arith }
+pub start_near : {net index : List ℕ} {runs from t : ℕ} {marks : List ℕ} → Ready net index runs from → 1 ≤ t → is_marked marks from ≡ true
+    → NearFound (bicycle net) (nodes_of net) t from marks (record { node = from; length = 0 })
+start_near {from = from} {t} Y one m =
+    record { nearest = start_nearest one (paved Y t) Y.from_node m; small = omega arith }
 
 -- every node may be asked
 pub all_markable : {ask : Ask} {marks best : List ℕ} → Marks ask marks → ask.runs ≤ length best
     → AllMarkable (index_in ask) best marks (nodes_of (network_in ask))
-all_markable {ask} K fits node l = record { looked = looked_at ask fits node l; marked = omega (arith, K.fits) }
+all_markable {ask} K fits node l = record { looked = looked_at (ready ask) fits node l; marked = omega (arith, K.fits) }
 
-module _ {ask : Ask} (A : AskedAt ask) (marks : List ℕ)
-    (off : is_marked marks ask.from ≡ false) {best previous : List ℕ} {m : ℕ} (S : StopsAt ask ask.tolerance marks best previous m) where
-  apart_marked : (b : ℕ) → is_marked marks b ≡ true → ask.from ≡ b → ⊥
+module _ {net index : List ℕ} {runs from : ℕ} (Y : Ready net index runs from) (t : ℕ) (marks : List ℕ) (off : is_marked marks from ≡ false)
+    {best previous : List ℕ} {limit m : ℕ} (S : Explored (run_graph net runs t from) (turns_back net) (goal_at net marks) best previous limit m) where
+  apart_marked : (b : ℕ) → is_marked marks b ≡ true → from ≡ b → ⊥
   apart_marked b h e = true≢false (sym h ∙ ap (is_marked marks) (sym e) ∙ off)
 
   -- no route to a marked node is shorter than the label where the search stopped
-  marked_far : (b : ℕ) → is_marked marks b ≡ true → Far (bicycle (network_in ask)) ask.tolerance ask.from b (label_in m)
+  marked_far : (b : ℕ) → is_marked marks b ≡ true → Far (bicycle net) t from b (label_in m)
   unfolding goal_at
   marked_far b h =
-      let W = whole_stop ask ask.tolerance S in
-      far_below (bicycle (network_in ask)) ask.tolerance ask.from b (at best) (label_in m) W.stop.follows (apart_marked b h)
-      (λ q i l k e. W.stop.none q i (omega (arith, (fair (all_runs ask)).small)) (ap (is_marked marks) e ∙ h))
+      let W = whole_stop Y t S in
+      far_below (bicycle net) t from b (at best) (label_in m) W.stop.follows (apart_marked b h)
+      (λ q i l k e. W.stop.none q i (omega (arith, (fair (all_runs Y)).small)) (ap (is_marked marks) e ∙ h))
 
   -- where the search came to its end, there is none
-  pub stop_none_marked : top ≤ m → NoneMarked (bicycle (network_in ask)) (nodes_of (network_in ask)) ask.tolerance ask.from marks
+  pub stop_none_marked : top ≤ m → NoneMarked (bicycle net) (nodes_of net) t from marks
   stop_none_marked l b i h = (marked_far b h).none (omega arith)
 
   module _ (l : m < top) where
     -- the run that was met arrives at a marked node, no farther than its label: not every node is far
-    pub stop_some_near : ((b : ℕ) → b < nodes_of (network_in ask) → is_far (index_in ask) best ask.from marks (label_in m) b ≡ true) → ⊥
+    pub stop_some_near : limit ≡ top → ((b : ℕ) → b < nodes_of net → is_far index best from marks (label_in m) b ≡ true) → ⊥
     unfolding goal_at
-    stop_some_near far =
+    stop_some_near whole far =
         let met = S.stop.whose l in
-        let v = finish (network_in ask) (run_in m) in
-        let inside = finish_below (run_of (ask_counted ask) met.inside) in
-        let goal : is_marked marks v ≡ true = S.stop.goal_met (omega (arith, A.whole)) in
-        let low = (least_arrival_lem ask best v inside).least (run_in m) (omega (arith, ask.counted, met.inside)) refl in
+        let v = finish net (run_in m) in
+        let inside = finish_below (run_of Y.counted met.inside) in
+        let goal : is_marked marks v ≡ true = S.stop.goal_met (omega arith) in
+        let low = (least_arrival_lem Y best v inside).least (run_in m) (omega (arith, Y.counted.count, met.inside)) refl in
         true_is_false
-        (is_near (index_in ask) best ask.from marks (label_in m) v goal
-        (omega (arith, length_elsewhere (index_in ask) best ask.from v (apart_marked v goal), low, met.exact)))
+        (is_near index best from marks (label_in m) v goal
+        (omega (arith, length_elsewhere index best from v (apart_marked v goal), low, met.exact)))
         (far v inside)
 
     -- the first marked node that is no farther is the nearest
-    pub stop_near : {node : ℕ} → FirstNear (index_in ask) best ask.from marks (label_in m) (nodes_of (network_in ask)) node
-        → NearFound (bicycle (network_in ask)) (nodes_of (network_in ask)) ask.tolerance ask.from marks (record { node = node; length = label_in m })
-    stop_near {node} N =
-        let s = near_is (index_in ask) best ask.from marks (label_in m) node N.near in
+    pub stop_near : {node : ℕ} → 1 ≤ t → FirstNear index best from marks (label_in m) (nodes_of net) node
+        → NearFound (bicycle net) (nodes_of net) t from marks (record { node = node; length = label_in m })
+    stop_near {node} one N =
+        let s = near_is index best from marks (label_in m) node N.near in
         let small : label_in m < unlabelled = omega arith in
         record {
           nearest =
-              first_nearest (stop_distances ask ask.tolerance S A.low (omega arith) small) node N.inside s.0 s.1
-              (λ b i h. far_is (index_in ask) best ask.from marks (label_in m) b (N.lower b i) h)
+              first_nearest (stop_distances Y t S one (omega arith) small) node N.inside s.0 s.1
+              (λ b i h. far_is index best from marks (label_in m) b (N.lower b i) h)
               (λ b rs i h w. (marked_far b h).long rs w);
           small = small;
         }

@@ -2,7 +2,7 @@
 -- distances, and the entries that are written are the map (proofs/ReachLaws.antt). A length that is clamped is above every label, so nothing is left out.
 use native.Mathlib.Omega.{arith}
 use Rattle.network.proofs.NetworkLaws.{passed}
-use Rattle.search_reach.proofs.ArrivalLaws.{looked_at}
+use Rattle.search_reach.proofs.ArrivalLaws.{ready, looked_at}
 use Rattle.search_reach.proofs.ReachLaws.{stop_asked, clamped_small, unmarked_node, map_from_stop}
 use Rattle.search_reach.proofs.map.reach.Goals as goal
 
@@ -26,13 +26,14 @@ list_nodes-requires c =
     let ask = c.args.ask.now in
     let e = c.nodes.ensures in
     record {
-      looked = λ node l. looked_at ask (omega (arith, c.requires.1.best_fits, c.explore.auto.best)) node (omega (arith, e));
+      looked = λ node l. looked_at (ready ask) (omega (arith, c.requires.1.best_fits, c.explore.auto.best)) node (omega (arith, e));
       small = omega (arith, e, (passed _ ask.streets.net.kept).limits.few_nodes);
       fits = omega (arith, e, c.requires.3.fits);
     }
 
 pub returns : goal.returns
 returns c =
+    let ask = c.args.ask.now in
     let A = c.requires.0 in
-    map_from_stop A c.requires.2 c.clamp-farthest.ensures c.key_of.ensures (stop_asked _ _ _ _ _ A.one c.explore.ensures)
+    map_from_stop (ready ask) ask.tolerance A.low c.requires.2 c.clamp-farthest.ensures c.key_of.ensures (stop_asked _ _ _ _ _ A.one c.explore.ensures)
     (rw c.nodes.ensures at c.list_nodes.ensures)

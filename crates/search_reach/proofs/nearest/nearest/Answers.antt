@@ -1,12 +1,13 @@
 -- A marked start is its own nearest. Else the exploration stops at the nearest run that arrives at a marked node, and the first node that is no farther is
 -- the nearest; or it comes to its end, and no marked node has a route (proofs/ReachLaws.antt).
 use native.Mathlib.Omega.{arith}
+use Rattle.search_reach.proofs.ArrivalLaws.{ready}
 use Rattle.search_reach.proofs.ReachLaws.{marked, not_marked, stop_met, start_near, stop_none_marked, all_markable, stop_some_near, stop_near}
 use Rattle.search_reach.proofs.nearest.nearest.Goals as goal
 
 pub returns-then-marks-from-ne0 : goal.returns-then-marks-from-ne0
 returns-then-marks-from-ne0 c =
-    start_near c.requires.0 (marked _ _ c.if-marks-from-ne0.true)
+    start_near (ready c.args.ask.now) c.requires.0.low (marked _ _ c.if-marks-from-ne0.true)
 
 pub invariant_of-search : goal.invariant_of-search
 invariant_of-search c =
@@ -20,9 +21,8 @@ explore-requires c =
 
 pub returns-in_default : goal.returns-in_default
 returns-in_default c =
-    let A = c.requires.0 in
     let s = c.in_default.ensures.0 in
-    stop_none_marked A _ (not_marked _ _ c.if-marks-from-ne0.false) s.1 (omega (arith, s.0, A.whole))
+    stop_none_marked (ready c.args.ask.now) _ _ (not_marked _ _ c.if-marks-from-ne0.false) s.1 (omega (arith, s.0, c.requires.0.whole))
 
 pub first_near-requires : goal.first_near-requires
 first_near-requires c =
@@ -33,7 +33,7 @@ returns-in_err-node c =
     let A = c.requires.0 in
     let M = c.in-Ok.ensures in
     absurd
-    (stop_some_near A _ (not_marked _ _ c.if-marks-from-ne0.false) (stop_met A.one M) (omega (arith, M.below_limit, A.whole))
+    (stop_some_near (ready c.args.ask.now) _ _ (not_marked _ _ c.if-marks-from-ne0.false) (stop_met A.one M) (omega (arith, M.below_limit, A.whole)) A.whole
     (rw (c.nodes.ensures, c.label_in-length.ensures) at c.in_err-node.ensures))
 
 pub returns : goal.returns
@@ -42,5 +42,5 @@ returns c =
     let M = c.in-Ok.ensures in
     let label = c.label_in-length.ensures in
     rw label
-    (stop_near A _ (not_marked _ _ c.if-marks-from-ne0.false) (stop_met A.one M) (omega (arith, M.below_limit, A.whole))
+    (stop_near (ready c.args.ask.now) _ _ (not_marked _ _ c.if-marks-from-ne0.false) (stop_met A.one M) (omega (arith, M.below_limit, A.whole)) A.low
     (rw (c.nodes.ensures, label) at c.in_ok-node.ensures))
