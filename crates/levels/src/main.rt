@@ -1,5 +1,5 @@
 // Standard input to levels: for each segment of the network text its number, level and measure, or one line for a refusal. At most 65,536 bytes are
-// read, and those are judged. What is printed is decided by `levels::levels`, which is proved, and is written as a whole: a reader gets it in one piece.
+// read, and those are judged. What is printed is decided by `levels::levels`, which is proved, and is handed on as a whole, not in pieces.
 #![tactic(auto)]
 
 mod levels;
