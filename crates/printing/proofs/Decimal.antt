@@ -1,13 +1,25 @@
--- Numbers in decimal: where so many digits are enough, they are what `{}` prints of the number.
+-- Numbers in decimal. However few digits are asked for, there are no more; and where they are enough, they are what `{}` prints of the number.
 -- Assumes nothing.
 use Prim.Native.Nat.{ℕ, zero, suc, ◌+◌, ◌/◌, ◌%◌, ◌^◌, ◌≤◌, ◌<◌}
 use native.Mathlib.Nat.{pow-succ'}
 use native.Mathlib.Omega.{arith}
 use mathlib.Core.Path.{◌≡◌, refl, ap}
+use mathlib.Core.Bool.{Bool, true, false, cond}
 use mathlib.Core.List.{List, [], ◌∷◌, ◌++◌}
+use lib.Dec.{ltb}
+use lib.ListN.{length, length-append}
 use borrow.Author.Tests.{lt-ltb, le-ltb}
 use Rattle.std.proofs.lemmas.Fmt.{decimal_by_steps}
 use Rattle.printing.specs.Output.{decimal, displayed}
+
+pub decimal_length : (k n : ℕ) → length (decimal k n) ≤ k
+unfolding decimal
+decimal_length zero n = omega arith
+decimal_length (suc k) n = go (ltb n 10) _ _ (decimal_length k (n / 10))
+  where
+    go : (t : Bool) (x y : ℕ) → length (decimal k (n / 10)) ≤ k → length (cond t (x ∷ []) (decimal k (n / 10) ++ (y ∷ []))) ≤ suc k
+    go true x y h = omega arith
+    go false x y h = omega (arith, length-append (decimal k (n / 10)) (y ∷ []))
 
 -- so many digits are the number's
 abbrev Spelled : ℕ → List ℕ → Type 0
