@@ -49,7 +49,7 @@ route_entries (Some route) = 1 ∷ route.count ∷ route.length ∷ route.level 
 
 abbrev pub LeastFits : Option LeastRoute → Type 0
 LeastFits None = Unit {0}
-LeastFits (Some least) = least.route.count < span
+LeastFits (Some least) = (least.route.count < span) × (least.tolerance < span)
 
 abbrev pub least_entries : Option LeastRoute → List ℕ
 least_entries None = 0 ∷ []
