@@ -6,6 +6,7 @@ ghost use Rattle.network.specs.Steps.Checks.{Awaits, AwaitsRuns};
 ghost use Rattle.splicereel.specs.Finding.{fits};
 ghost use Rattle.splicereel.specs.Steps.Calls.{Tested, NetworkTested, NetworkIndexed, AskTested, scratch_fits};
 
+use crate::route::has_room;
 use queue::TOP;
 use refusals::Refusal;
 use search_relaxing::Ask;
@@ -51,11 +52,18 @@ pub fn tolerance_of(tolerance: usize) -> Result<u8, Refusal>
     }
 }
 
-// 11: each scratch slice has a number for each run.
+// Each scratch slice has a number for each run.
+pub fn has_scratch(runs: usize, best: usize, previous: usize) -> bool
+    ensures { result ≡ scratch_fits runs best previous }
+{
+    (runs <= best) & (runs <= previous)
+}
+
+// 11: each has.
 pub fn check_scratch(runs: usize, best: usize, previous: usize) -> Result<(), Refusal>
     ensures { Tested (scratch_fits runs best previous) NoRoom (λ _. ⊤) result }
 {
-    if (runs <= best) & (runs <= previous) {
+    if has_scratch(runs, best, previous) {
         return Ok(());
     }
     Err(Refusal::NoRoom)
@@ -71,8 +79,7 @@ pub fn check_room(
 ) -> Result<(), Refusal>
     ensures { Tested (fits runs best previous buffer place) NoRoom (λ _. ⊤) result }
 {
-    check_scratch(runs, best, previous)?;
-    if place <= buffer && runs <= buffer - place {
+    if has_room(runs, best, previous, buffer, place) {
         return Ok(());
     }
     Err(Refusal::NoRoom)

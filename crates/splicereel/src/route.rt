@@ -1,8 +1,10 @@
 // Route: a shortest way from node to node that never goes above a tolerance.
+ghost use Rattle.std.specs.Prelude.{◌≡◌};
+ghost use Rattle.splicereel.specs.Finding.{fits};
 ghost use Rattle.splicereel.specs.Promises.{lent, RoutePromise};
 ghost use Rattle.splicereel.specs.Steps.Calls.{CornerRoom, NodeRoom};
 
-use crate::checks::{check_node, check_room, indexed_streets, tolerance_of};
+use crate::checks::{check_node, check_room, has_scratch, indexed_streets, tolerance_of};
 use frames::sizes;
 use network::corners::{COUNTY_CORNERS, TOWN_CORNERS, free_corners};
 use network::kept::is_county;
@@ -13,6 +15,15 @@ use routes::Found;
 use search_relaxing::Ask;
 use search_rounds::explore::unknown;
 use search_routes::find::find;
+
+// The lent slices have room for a number for each run, the buffer from the place on. What is left of the buffer is compared, so that no sum can pass the
+// greatest number.
+#[tactic(auto, unfolding(crate::specs::Finding::fits))]
+pub fn has_room(runs: usize, best: usize, previous: usize, buffer: usize, place: usize) -> bool
+    ensures { result ≡ fits runs best previous buffer place }
+{
+    has_scratch(runs, best, previous) && place <= buffer && runs <= buffer - place
+}
 
 // Writes the runs of a shortest route within the tolerance into the buffer from the place on, and gives their count, the length in feet and the level; none
 // where no route is within the tolerance.
