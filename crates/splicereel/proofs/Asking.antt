@@ -1,9 +1,9 @@
 -- The tests of Route and of Least stress are passed: so the search may be asked, and what it answers is what
 -- Route promises.
 -- Assumes nothing.
-use Prim.Native.Nat.{ℕ, ◌+◌, ◌≤◌}
+use Prim.Native.Nat.{ℕ, ◌+◌, ◌*◌, ◌≤◌}
 use native.Mathlib.Omega.{arith}
-use mathlib.Core.Path.{◌≡◌, subst}
+use mathlib.Core.Path.{◌≡◌, ap, subst}
 use mathlib.Core.Bool.{true, ◌&&◌}
 use mathlib.Core.List.{List}
 use Rattle.std.specs.Prelude.{Option, Some, None, Ok}
@@ -17,7 +17,8 @@ use Rattle.routes.specs.declared.Entry.{Entry}
 use Rattle.routes.specs.declared.LeastRoute.{LeastRoute}
 use Rattle.queue.specs.Steps.Queue.{top}
 use Rattle.frames.specs.Ranges.{within}
-use Rattle.network.specs.Network.{nodes_of}
+use Rattle.network.specs.Network.{nodes_of, segments_of}
+use Rattle.streets.specs.Runs.{runs_of}
 use Rattle.streets.specs.Bicycle.{bicycle}
 use Rattle.search_relaxing.specs.declared.Ask.{Ask}
 use Rattle.search_relaxing.specs.Steps.Counted.{network_in}
@@ -26,6 +27,9 @@ use Rattle.search_routes.specs.Steps.Answered.{Question, Rooms, Answered}
 use Rattle.splicereel.specs.Finding.{fits, route_refusal, reach_refusal}
 use Rattle.splicereel.specs.Promises.{Lent, RoutePromise}
 use Rattle.splicereel.specs.Reaching.{Scratch, NearestPromise}
+
+pub runs_of_lem : (net : List ℕ) {segments : ℕ} → segments ≡ segments_of net → 2 * segments ≡ runs_of net
+runs_of_lem net s = ap (λ (n : ℕ). 2 * n) s
 
 module _ {runs : ℕ} {best previous buffer : List ℕ} {place : ℕ} where
   pub rooms : fits runs (length best) (length previous) (length buffer) place ≡ true → Rooms runs best previous buffer place
