@@ -12,7 +12,7 @@ use Rattle.splicereel.proofs.route.route_in.Goals as goal
 pub find-least-requires : goal.find-least-requires
 find-least-requires g c =
     let T = c.in_ok-tolerance.ensures in (
-      in_order c.nodes-nodes.ensures c.in_ok-check_node-2.ensures.0 (low_enough c.args.tolerance T.0 T.1) (omega arith) refl,
+      in_order c.nodes-nodes.ensures c.in_ok-check_node-2.ensures.0 (low_enough _ T.0 T.1) (omega arith) refl,
       rooms c.in_ok-check_room.ensures.0,
       unmarked c.in_ok-streets.streets.net.kept c.in_ok-streets.ensures.1.0 c.requires.1 c.unknown-goals.ensures,
     )
