@@ -16,7 +16,6 @@ use lib.ListN.{length, drop}
 use borrow.Author.Tests.{ltb-false, not-false, le-ltb, eq-eqb, ne_eqb, eqb-true}
 use Rattle.lists.specs.Lists.{at}
 use Rattle.lists.proofs.Facts.{and_true, false_or, lt_or_ge}
-use Rattle.lists.proofs.Lists.{true_is_false}
 use Rattle.routes.specs.Reach.{numbers, ReachMap, MapWritten, is_marked, NoneMarked}
 use Rattle.routes.specs.Steps.Labels.{Graph, graph_of, unlabelled, Paved, First, Next, Follows}
 use Rattle.routes.specs.Steps.Reach.{Attained, Distances, entries_of}
@@ -260,19 +259,19 @@ module _ {net index : List ℕ} {runs from : ℕ} (Y : Ready net index runs from
   stop_none_marked l b i h = (marked_far b h).none (omega arith)
 
   module _ (l : m < top) where
-    -- the run that was met arrives at a marked node, no farther than its label: not every node is far
-    pub stop_some_near : limit ≡ top → ((b : ℕ) → b < nodes_of net → is_far index best from marks (label_in m) b ≡ true) → ⊥
+    -- the run that was met arrives at a marked node, no farther than its label: some node is near
+    pub stop_some_near : limit ≡ top → (v : ℕ) × (v < nodes_of net) × (is_far index best from marks (label_in m) v ≡ false)
     unfolding goal_at
-    stop_some_near whole far =
+    stop_some_near whole =
         let met = S.stop.whose l in
         let v = finish net (run_in m) in
         let inside = finish_below (run_of Y.counted met.inside) in
         let goal : is_marked marks v ≡ true = S.stop.goal_met (omega arith) in
         let low = (least_arrival_lem Y best v inside).least (run_in m) (omega (arith, Y.counted.count, met.inside)) refl in
-        true_is_false
-        (is_near index best from marks (label_in m) v goal
-        (omega (arith, length_elsewhere index best from v (apart_marked v goal), low, met.exact)))
-        (far v inside)
+        let near =
+        is_near index best from marks (label_in m) v goal
+        (omega (arith, length_elsewhere index best from v (apart_marked v goal), low, met.exact)) in
+        (v, inside, near)
 
     -- the first marked node that is no farther is the nearest
     pub stop_near : {node : ℕ} → 1 ≤ t → FirstNear index best from marks (label_in m) (nodes_of net) node

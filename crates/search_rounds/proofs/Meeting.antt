@@ -37,3 +37,6 @@ module _ {ask : Ask} {goals : List ℕ} {best previous : List ℕ} where
   pub met_here : {key : ℕ} → ask.least ≤ ask.tolerance → NoneBelow ask goals → Stopped ask ask.tolerance goals best previous (Ok key)
       → Meets ask goals best previous (Ok (record { key = key; tolerance = ask.tolerance }))
   met_here l n s = record { low = l; high = omega arith; below_limit = s.0; stop = s.1; none_below = n }
+
+  pub none_here : {key : ℕ} → NoneBelow ask goals → Stopped ask ask.tolerance goals best previous (Err key) → Meets ask goals best previous (Err key)
+  none_here n s = (s, n)

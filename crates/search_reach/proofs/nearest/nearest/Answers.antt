@@ -1,6 +1,7 @@
 -- A marked start is its own nearest. Else the exploration stops at the nearest run that arrives at a marked node, and the first node that is no farther is
 -- the nearest; or it comes to its end, and no marked node has a route (proofs/ReachLaws.antt).
 use native.Mathlib.Omega.{arith}
+use Rattle.lists.proofs.Lists.{true_is_false}
 use Rattle.search_reach.proofs.ArrivalLaws.{ready}
 use Rattle.search_reach.proofs.ReachLaws.{marked, not_marked, stop_met, start_near, stop_none_marked, all_markable, stop_some_near, stop_near}
 use Rattle.search_reach.proofs.nearest.nearest.Goals as goal
@@ -32,9 +33,10 @@ pub returns-in_err-node : goal.returns-in_err-node
 returns-in_err-node c =
     let A = c.requires.0 in
     let M = c.in-Ok.ensures in
-    absurd
-    (stop_some_near (ready c.args.ask.now) _ _ (not_marked _ _ c.if-marks-from-ne0.false) (stop_met A.one M) (omega (arith, M.below_limit, A.whole)) A.whole
-    (rw (c.nodes.ensures, c.label_in-length.ensures) at c.in_err-node.ensures))
+    let some =
+    stop_some_near (ready c.args.ask.now) _ _ (not_marked _ _ c.if-marks-from-ne0.false) (stop_met A.one M) (omega (arith, M.below_limit, A.whole)) A.whole in
+    let far = rw (c.nodes.ensures, c.label_in-length.ensures) at c.in_err-node.ensures in
+    absurd (true_is_false some.2 (far some.0 some.1))
 
 pub returns : goal.returns
 returns c =
