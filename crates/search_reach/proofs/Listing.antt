@@ -13,8 +13,7 @@ use Rattle.lists.proofs.Facts.{bool_cases}
 use Rattle.lists.proofs.PlacedLaws.{placed_nothing, placed_two}
 use Rattle.routes.specs.Reach.{numbers}
 use Rattle.routes.specs.Steps.Reach.{entries_of}
-use Rattle.search_reach.specs.Steps.Arrivals.{length_to}
-use Rattle.search_reach.specs.Steps.Map.{Listable, Nodes, NodesListed}
+use Rattle.search_reach.specs.Steps.Map.{Listable, Nodes}
 
 -- The nodes below `node` are passed, with `left` nodes left; the next entry goes to the place.
 pub record Listing (near : ℕ → ℕ) (farthest nodes : ℕ) (before list : List ℕ) (place node : ℕ) : Type 0 where
@@ -73,14 +72,13 @@ module _ {near : ℕ → ℕ} {farthest nodes : ℕ} {before list : List ℕ} {p
             counted = rw n' (rw p at c);
           })
 
+  pub listing_all : nodes ≤ node → (list ≡ placed 0 (numbers (entries_of near farthest 0 nodes)) before)
+      × (place / 2 ≡ length (entries_of near farthest 0 nodes))
+  unfolding entries_of
+  listing_all h =
+      let none : i.left ≡ 0 = omega arith in
+      (placed_nothing place list ∙ rw none at i.text, omega (arith, rw none at i.counted))
+
 pub listable : {near : ℕ → ℕ} {farthest nodes place node : ℕ} {index best before list : List ℕ} → Listing near farthest nodes before list place node
     → Nodes index best nodes before → node < nodes → Listable index best node list place
 listable i N l = record { looked = N.looked _ l; small = omega (arith, N.small); fits = fits i l N.fits }
-
-pub listing_all : {index best : List ℕ} {from farthest nodes place node : ℕ} {before list : List ℕ}
-    → Listing (length_to index best from) farthest nodes before list place node
-    → nodes ≤ node → NodesListed index best from farthest nodes before list (place / 2)
-unfolding entries_of
-listing_all {place = place} {list = list} i h =
-    let none : i.left ≡ 0 = omega arith in
-    record { text = placed_nothing place list ∙ rw none at i.text; counted = omega (arith, rw none at i.counted) }

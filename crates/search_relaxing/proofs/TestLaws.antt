@@ -19,8 +19,8 @@ use Rattle.streets.specs.Steps.Leaving.{Leaves, Entry}
 use Rattle.streets.proofs.ExitLaws.{exit_below}
 use Rattle.streets.proofs.MovementLaws.{exit_is}
 use Rattle.streets.proofs.LeavingLaws.{entry_leaves, leaving_at}
-use Rattle.search_relaxing.specs.Steps.Counted.{usable}
-use Rattle.search_relaxing.specs.Steps.Unfound.{RunBehind, to_each, Way, turns_back}
+use Rattle.search_relaxing.specs.Steps.Counted.{Counted, usable}
+use Rattle.search_relaxing.specs.Steps.Unfound.{Arrives, EveryExit, RightOnly, RunBehind, to_each, Way, turns_back}
 use Rattle.search_relaxing.proofs.CountedLaws.{run_of, Arriving}
 
 pub source_usable : {net : List ℕ} {node leg r : ℕ} → Leaves net node leg r → (t : ℕ) → usable (bicycle net) t r ≡ source_of (bicycle net) t node r
@@ -35,6 +35,24 @@ pub record Back (net : List ℕ) (u r : ℕ) : Type 0 where
 pub turns_back_lem : (net : List ℕ) (u r : ℕ) → turns_back net u r ≡ true → Back net u r
 unfolding turns_back
 turns_back_lem net u r e = grind (arith, nat_tests)
+
+-- ---- ways: onto a usable run by another leg of the node an edge leads, where every movement is within the tolerance, or the one onto that leg's run
+module _ {net : List ℕ} {n u node leg exit entry : ℕ} (T : Counted net n) (A : Arrives net u node leg) (E : Entry net node exit entry) (apart : exit ≡ leg → ⊥) where
+  pub way_every : {t : ℕ} → EveryExit net t u → Way net t n u entry
+  unfolding edge_of usable joins movement_level
+  way_every every =
+      record {
+        inside = λ r e. omega (arith, T.count, (E.leaving r e).inside);
+        leads = λ r e. grind (arith, nat_tests, E.leaving r e, A.at_node.is, A.by_leg.is, every.across);
+      }
+
+  pub way_right : {t : ℕ} → RightOnly net t u → exit ≡ right_hand_exit net (finish net u) (arrival_leg net u) → Way net t n u entry
+  unfolding edge_of usable joins movement_level
+  way_right O is =
+      record {
+        inside = λ r e. omega (arith, T.count, (E.leaving r e).inside);
+        leads = λ r e. grind (arith, nat_tests, E.leaving r e, A.at_node.is, A.by_leg.is, O.turn);
+      }
 
 -- ---- entries of the node where run u arrives
 module _ {net index : List ℕ} {n u node leg : ℕ} (H : Arriving net index n u node leg) where

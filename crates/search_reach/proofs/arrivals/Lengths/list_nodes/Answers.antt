@@ -9,4 +9,5 @@ list_node-place-requires c =
 
 pub returns : goal.returns
 returns c =
-    listing_all c.loop-node.invariant c.loop-node-test.false
+    let all = listing_all c.loop-node.invariant c.loop-node-test.false in
+    record { text = all.0; counted = all.1 }
