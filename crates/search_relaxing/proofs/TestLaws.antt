@@ -36,23 +36,24 @@ pub turns_back_lem : (net : List ℕ) (u r : ℕ) → turns_back net u r ≡ tru
 unfolding turns_back
 turns_back_lem net u r e = grind (arith, nat_tests)
 
--- ---- ways: onto a usable run by another leg of the node an edge leads, where every movement is within the tolerance, or the one onto that leg's run
-module _ {net : List ℕ} {n u node leg exit entry : ℕ} (T : Counted net n) (A : Arrives net u node leg) (E : Entry net node exit entry) (apart : exit ≡ leg → ⊥) where
-  pub way_every : {t : ℕ} → EveryExit net t u → Way net t n u entry
-  unfolding edge_of usable joins movement_level
-  way_every every =
+-- ---- ways: by another leg than that of arrival, where the level is within the tolerance, an edge leads onto a usable run
+module _ {net : List ℕ} {n u node leg exit entry : ℕ} (T : Counted net n) (A : Arrives net u node leg) (E : Entry net node exit entry) where
+  way_onto : {t : ℕ} → ((r : ℕ) → leaving_leg net r ≡ exit → (leaving_leg net r ≡ leg → ⊥) × (movement_level net u r ≤ t)) → Way net t n u entry
+  unfolding edge_of usable joins
+  way_onto onto =
       record {
         inside = λ r e. omega (arith, T.count, (E.leaving r e).inside);
-        leads = λ r e. grind (arith, nat_tests, E.leaving r e, A.at_node.is, A.by_leg.is, every.across);
+        leads = λ r e. grind (arith, nat_tests, E.leaving r e, A.at_node.is, A.by_leg.is, onto r);
       }
 
-  pub way_right : {t : ℕ} → RightOnly net t u → exit ≡ right_hand_exit net (finish net u) (arrival_leg net u) → Way net t n u entry
-  unfolding edge_of usable joins movement_level
-  way_right O is =
-      record {
-        inside = λ r e. omega (arith, T.count, (E.leaving r e).inside);
-        leads = λ r e. grind (arith, nat_tests, E.leaving r e, A.at_node.is, A.by_leg.is, O.turn);
-      }
+  module _ (apart : exit ≡ leg → ⊥) where
+    pub way_every : {t : ℕ} → EveryExit net t u → Way net t n u entry
+    unfolding movement_level
+    way_every every = way_onto (λ r e. (λ s. apart (omega (arith, e, s)), grind (arith, nat_tests, every.across)))
+
+    pub way_right : {t : ℕ} → RightOnly net t u → exit ≡ right_hand_exit net (finish net u) (arrival_leg net u) → Way net t n u entry
+    unfolding movement_level
+    way_right O is = way_onto (λ r e. (λ s. apart (omega (arith, e, s)), grind (arith, nat_tests, O.turn, is)))
 
 -- ---- entries of the node where run u arrives
 module _ {net index : List ℕ} {n u node leg : ℕ} (H : Arriving net index n u node leg) where
@@ -62,15 +63,9 @@ module _ {net index : List ℕ} {n u node leg : ℕ} (H : Arriving net index n u
   behind : {exit : ℕ} → exit < 8 → RunBehind n (at index (node * 8 + exit))
   behind l r e = omega (arith, H.counted.count, ((entry_at l).leaving r e).inside)
 
-  -- onto a usable run by another leg than that of arrival an edge leads, where the level is within the tolerance
   pub way : {t exit : ℕ} → exit < 8 → ((r : ℕ) → leaving_leg net r ≡ exit → (leaving_leg net r ≡ leg → ⊥) × (movement_level net u r ≤ t))
       → Way net t n u (at index (node * 8 + exit))
-  unfolding edge_of usable joins
-  way below onto =
-      record {
-        inside = behind below;
-        leads = λ r e. grind (arith, nat_tests, (entry_at below).leaving r e, onto r);
-      }
+  way below = way_onto H.counted H.arrives (entry_at below)
 
   -- an edge leads to the run that stands at the entry of the leg by which it leaves
   pub onward_at : (t r : ℕ) → r < n → edge_of (bicycle net) t u r ≡ true → at index (node * 8 + leaving_leg net r) ≡ r + 1
